@@ -1,7 +1,8 @@
-//! A replicated log. `omni replay` reads a schedule from standard input and writes the report of its run; `omni node ID` serves as
-//! a node over sockets and the files `omni.a` and `omni.b` of the current folder, with `omni.c` and `omni.d` as their second copies
-//! where it is mirrored, and with `omni.id`, which says whose the folder is, where its settings name the cluster; `omni call ADDR
-//! WORD..` asks one; and `omni cluster` runs each node of its settings as a child program.
+//! A replicated log. `omni replay` reads a schedule from standard input and writes the report of its run;
+//! `omni node ID` serves as a node over sockets and the files `omni.a` and `omni.b` of the current folder,
+//! with `omni.c` and `omni.d` as their second copies where it is mirrored, and with `omni.id`, which says
+//! whose the folder is, where its settings name the cluster; `omni call ADDR WORD..` asks one; and `omni
+//! cluster` runs each node of its settings as a child program.
 #![tactic(auto)]
 
 use either::{Left, Right};

@@ -77,7 +77,8 @@ fn accepted(
     Ok(plan)
 }
 
-/// The leader's log comes from a position on. In a round that is accepted already this never shortens the log.
+/// The leader's log comes from a position on. In a round that is accepted already this never shortens the
+/// log.
 pub fn on_accept_sync(
     member: &Member,
     role: &Role,

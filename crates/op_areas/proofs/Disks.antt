@@ -1,8 +1,8 @@
 -- Disks in memory that are made or armed.
-use Rattle.std.proofs.Common.{◌≡◌, ℕ, List, refl, sym, subst, ◌∙◌}
-use Rattle.op_outside.specs.Disks.{DiskState, MayLeave}
+use Rattle.std.proofs.Common.{ℕ, refl, sym, subst, ◌∙◌}
+use Rattle.op_outside.specs.Disks.{DiskState}
 use Rattle.op_memory.specs.Histories.{known_of}
-use Rattle.op_memory.specs.MemDisks.{known_disk, BeginsAnew, Holds}
+use Rattle.op_memory.specs.MemDisks.{known_disk, BeginsAnew}
 use Rattle.op_memory.specs.declared.disk.MemDisk.{MemDisk}
 use Rattle.op_memory.specs.declared.disk_history.DiskHistory.{DiskHistory}
 use Rattle.op_memory.specs.declared.fault_count.FaultCount.{FaultCount}
@@ -33,10 +33,6 @@ armed_anew old new t = armed_known (λ d. BeginsAnew (known_disk old) d) old new
 
 pub armed_leaves : (old new : MemDisk) → IsArmed old new → LeavesNoMore old new
 armed_leaves old new t x left = ((armed_anew old new t).images x).0 left
-
--- a new disk leaves what it holds
-pub held_only : (bytes : List ℕ) (d : MemDisk) → Holds bytes d → (x : List ℕ) → MayLeave (known_disk d) x → x ≡ bytes
-held_only bytes d h x left = h.rests.only.no_other x left ∙ h.seen
 
 pub anew_twice : (a b c : DiskState) → BeginsAnew a b → BeginsAnew b c → BeginsAnew a c
 anew_twice a b c ab bc = record {

@@ -1,5 +1,5 @@
-//! An area of a node in memory: a disk, or a mirror of two. What holds its bytes while its node is down, and what a schedule
-//! does to that.
+//! An area of a node in memory: a disk, or a mirror of two. What holds its bytes while its node is down, and
+//! what a schedule does to that.
 #![tactic(auto)]
 
 mod area;

@@ -12,7 +12,8 @@ pub struct MemMirror {
     pub mirror: Mirror<MemDisk>,
 }
 
-/// Each call is the mirror's. A stop of the second copy in a call that both are called in is one of the first one too.
+/// Each call is the mirror's. A stop of the second copy in a call that both are called in is one of the first
+/// one too.
 impl Disk for MemMirror {
     ghost state = { λ m. known_mirror known_disk m.mirror };
 

@@ -19,7 +19,8 @@ pub(crate) fn empty_disk(alloc: Global) -> Result<MemDisk, NoMemory>
     Ok(MemDisk::new(alloc, Vec::new(alloc))?)
 }
 
-/// A new disk that holds these bytes in the place of another one: it is killed where that was, and has failed so often.
+/// A new disk that holds these bytes in the place of another one: it is killed where that was, and has failed
+/// so often.
 pub(crate) fn disk_of(
     alloc: Global,
     disk: &MemDisk,

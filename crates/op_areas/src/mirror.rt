@@ -55,8 +55,9 @@ impl Area for MemMirror {
         }
     }
 
-    /// It answers NoMemory too where a copy that is out isn't killed and pends otherwise than the one that is read. No stop leads
-    /// there, since both copies stop in the same call of the mirror: only a call that was to fail of a copy that lives on.
+    /// It answers NoMemory too where a copy that is out isn't killed and pends otherwise than the one that is
+    /// read. No stop leads there, since both copies stop in the same call of the mirror: only a call that was
+    /// to fail of a copy that lives on.
     fn close(self) -> Result<DiskPair, NoMemory> {
         let MemMirror { mirror } = self;
         let living = mirror.living();
@@ -99,8 +100,9 @@ impl Area for MemMirror {
     }
 }
 
-/// The same mirror, which was opened on copies of which this was seen. A killed one is out, and where the first one is killed
-/// the second one was only synced. Where a copy stopped meanwhile the copies are handed back, since no call comes after a stop.
+/// The same mirror, which was opened on copies of which this was seen. A killed one is out, and where the
+/// first one is killed the second one was only synced. Where a copy stopped meanwhile the copies are handed
+/// back, since no call comes after a stop.
 fn opened(mirror: Mirror<MemDisk>, seen: Seen) -> Result<Opening<MemMirror, DiskPair>, NoMemory>
     ensures seen { IfOk result (IsOpenedAsSeen seen mirror) }
     ensures runs { IfOk result (λ o. is_opened o ≡ true ↔ HasNoStop mirror) }
@@ -117,8 +119,8 @@ fn opened(mirror: Mirror<MemDisk>, seen: Seen) -> Result<Opening<MemMirror, Disk
     Ok(Opening::Opened(MemMirror { mirror }))
 }
 
-/// Copies of which this was seen, and which were handed back: one that was killed stays so, and where the first one was, the
-/// second one was only synced.
+/// Copies of which this was seen, and which were handed back: one that was killed stays so, and where the
+/// first one was, the second one was only synced.
 fn unopened(first: MemDisk, second: MemDisk, seen: Seen) -> Result<DiskPair, NoMemory>
     ensures { IfOk result (AreAsSeen seen first second) }
 {

@@ -1,5 +1,5 @@
 -- Whatever bytes are read as a service's base, what is read is in range and in order. And a base that is short enough is read.
-use Rattle.std.proofs.Common.{◌≡◌, ℕ, zero, suc, ◌+◌, ◌-◌, ◌^◌, ◌≤◌, Bool, true, eqb, ltb, cond, IsTrue, List, [], ◌∷◌, length, take, drop, Result, Ok, Err, refl, sym, ap, subst, ◌∙◌, inl, inr, arith}
+use Rattle.std.proofs.Common.{◌≡◌, ℕ, zero, suc, ◌+◌, ◌-◌, ◌^◌, ◌≤◌, Bool, true, eqb, ltb, cond, IsTrue, List, [], ◌∷◌, length, take, drop, Result, Ok, Err, refl, sym, ap, subst, inl, inr, arith}
 use Rattle.std.specs.Result.{result_ok}
 use Rattle.std.specs.Int.{Width, w8, w16, w64}
 use Rattle.std.specs.Cmp.{nat_cmp_total}
@@ -18,10 +18,10 @@ use Rattle.op_spec.specs.Service.{Pairs, Service, new_service, base_bytes}
 use Rattle.op_spec.specs.ServiceRanges.{IsOfEffect, AppliedInRange, ServiceInRange, ServiceIsOrdered}
 use Rattle.op_kv.specs.Rising.{greatest_count, RiseFrom, rising_read, rising}
 use Rattle.op_kv.specs.Bases.{IsBase, HasBase, no_fields, kept_options, kept_answer, applied, pair_above, rising_pairs, client_above, rising_clients, base}
-use Rattle.op_kv.proofs.BaseReads.{pairs_fit, clients_fit, has_base}
+use Rattle.op_kv.proofs.BaseReads.{pairs_fit, clients_fit}
 use Rattle.op_kv.proofs.Climbs.{climbs_rise}
-use Rattle.op_protocol.specs.Bases.{service_read, is_base, or_new, service_in}
-use Rattle.op_protocol.proofs.Bases.{service_is_read, ReadsAs, read_is_base, base_is_read}
+use Rattle.op_protocol.specs.Bases.{is_base, or_new, service_in}
+use Rattle.op_protocol.proofs.Bases.{ReadsAs, base_is_read}
 
 -- what is read by this form has an encoding
 abbrev Keeps : {A : Type 0} → Form A → Type 0
@@ -178,9 +178,3 @@ base_if_read bytes h =
     let r : ReadsAs bytes = base_is_read bytes h in
     let k : ServiceIn r.service = subst ServiceIn (ap or_new r.read) (service_in_range bytes) in
     (r.service, k.range, k.order, r.is)
-
--- a base that is short enough is read
-pub short_base_is_read : (bytes : List ℕ) → IsBase bytes → length bytes ≤ 2 ^ 64 - 1 → is_base bytes ≡ true
-short_base_is_read bytes is short =
-    let s : Service = is.0 in
-    read_is_base bytes s (ap service_read is.3 ∙ service_is_read s (has_base s is.1 is.2 (omega (arith, ap length is.3, short)))) is.3

@@ -82,9 +82,6 @@ module _ (Known : ℕ → Type 0) (ids : AreIds Known) (me : ℕ) (one : Known m
   says : (sends : List (ℕ × Msg)) → All (SendInRange Known) sends → Fine (remembering v sends)
   says sends said = quiet_plan Known me l j v v t w others [] sends None o (nothing_joined Known ids me o l j d) in_volatile stops in_service said tt
 
-  silent : Fine (remembering v [])
-  silent = says [] (All-nil (SendInRange Known))
-
   answers : (x : Option Outcome) → IfSome x (OutcomeInRange Known) → Fine (answering v x)
   answers x told = quiet_plan Known me l j v v t w others [] [] x o (nothing_joined Known ids me o l j d) in_volatile stops in_service (All-nil (SendInRange Known)) told
 

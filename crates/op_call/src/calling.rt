@@ -9,8 +9,8 @@ use op_status::Status;
 use op_types::Request;
 use std::alloc::Global;
 
-/// Asks the node at this address, and writes what it answers as a line. `NoReply`, `TurnsOver` and `NetFault` come as the
-/// client's call tells them, and `WriteFault` where a write failed.
+/// Asks the node at this address, and writes what it answers as a line. `NoReply`, `TurnsOver` and `NetFault`
+/// come as the client's call tells them, and `WriteFault` where a write failed.
 pub fn call_node<N: Net, K: Sink>(
     alloc: Global,
     addr: &Addr,

@@ -197,16 +197,6 @@ pub next_is : (p q : Part) (stop : StopSign) → stop_at_end (decided_since p q)
 next_is p q stop ends = ap named_by (ends_all (p.decided - q.trimmed) (decided_tail q) stop ends)
 
 module _ (me : ℕ) (o : Option Part) (s : Service) (r : Role) (old : Plan) where
-  -- without a part nothing is closed
-  pub closes_nothing : o ≡ None → IfCloses me o s r old old None
-  closes_nothing is = subst (λ (x : Option Part). IfCloses me x s r old old None) (sym is) (refl, refl)
-
-  -- nor without a stop-sign
-  pub closes_not : (p : Part) → o ≡ Some p → stop_at_end (newly_decided o old.batch) ≡ None → IfCloses me o s r old old None
-  closes_not p is none =
-      let here : stop_at_end (decided_since p (part_after p old.batch)) ≡ None = subst (λ (x : Option Part). stop_at_end (newly_decided x old.batch) ≡ None) is none in
-      subst (λ (x : Option Part). IfCloses me x s r old old None) (sym is) (refl, ap is_some here)
-
   module _ (p : Part) (is : o ≡ Some p) (stop : StopSign) (ends : stop_at_end (newly_decided o old.batch) ≡ Some stop) where
     -- the stop-sign of the part
     pub ends_here : stop_at_end (decided_since p (part_after p old.batch)) ≡ Some stop

@@ -11,7 +11,7 @@ use Rattle.std.specs.declared.cmp.Ordering.{Ordering}
 use Rattle.std.specs.declared.cmp.Ordering.TheVariants.{Less, Equal, Greater}
 use Rattle.op_protocol.specs.State.{Waiting}
 use Rattle.op_protocol.specs.Serving.{waiting_cmp}
-use Rattle.op_chain.specs.Waiting.{with_waiters, without_coming}
+use Rattle.op_chain.specs.Waiting.{without_coming}
 
 -- the place of a pair in the set
 abbrev at : ℕ × ℕ → ℕ × ℕ → Bool
@@ -54,8 +54,3 @@ without_last ws (w ∷ coming) k = ap (λ (xs : Waiting). remove_key (is_at (wai
 -- one that comes anew leaves those that wait
 pub without_new : (ws : Waiting) (coming : List (ℕ × ℕ)) (k : ℕ × ℕ) → list_any (is_at (waiting_cmp k)) ws ≡ false → without_coming (insert_key waiting_cmp ws k) (coming ++ k ∷ []) ≡ without_coming ws coming
 without_new ws coming k new = without_last (insert_key waiting_cmp ws k) coming k ∙ ap (λ (xs : Waiting). without_coming xs coming) (without_added ws k new)
-
--- those that wait, with one more at the end
-pub with_last : (ws : Waiting) (waiters : List (ℕ × ℕ)) (k : ℕ × ℕ) → with_waiters ws (waiters ++ k ∷ []) ≡ insert_key waiting_cmp (with_waiters ws waiters) k
-with_last ws [] k = refl
-with_last ws (w ∷ waiters) k = with_last (insert_key waiting_cmp ws w) waiters k

@@ -2,8 +2,8 @@
 use Rattle.std.proofs.Common.{◌≡◌, ℕ, ◌+◌, ◌≤◌, ◌==◌, ◌&&◌, Bool, true, false, cond, not, List, [], ◌∷◌, ◌++◌, length, Option, Some, None, is_some, refl, sym, ap, subst, ◌∙◌}
 use Rattle.std.specs.Prelude.{nat_le}
 use Rattle.std.proofs.lemmas.Bool.{and_parts, both_ways, leb-true, not-true}
-use Rattle.op_types.specs.Joinings.{Base, held_run, cover_of, IsWhole}
-use Rattle.op_types.specs.Changes.{JoiningOptionApplies, joining_with, joining_option_with, durable_with, durable_after, Applies}
+use Rattle.op_types.specs.Joinings.{Base, held_run}
+use Rattle.op_types.specs.Changes.{joining_with, joining_option_with, durable_with, durable_after, Applies}
 use Rattle.op_types.specs.Rooms.{joining_with_room}
 use Rattle.op_types.specs.Stages.{Pieces}
 use Rattle.op_types.specs.declared.changes.Change.{Change}
@@ -16,10 +16,8 @@ use Rattle.op_types.specs.declared.log.Entry.{Entry}
 use Rattle.op_types.specs.declared.messages.Body.{Body}
 use Rattle.op_types.specs.declared.messages.Body.TheVariants as body
 use Rattle.op_types.specs.declared.runs.Piece.{Piece}
-use Rattle.op_spec.specs.Service.{base_bytes}
-use Rattle.op_protocol.specs.State.{State}
 use Rattle.op_protocol.specs.Bases.{is_base}
-use Rattle.op_protocol.specs.Joining.{new_entries, are_some, takes_base, takes_entries, base_once, brought_to, joined_service, goes_on_if, holding, holds_more}
+use Rattle.op_protocol.specs.Joining.{new_entries, are_some, takes_base, takes_entries, base_once, brought_to}
 use Rattle.op_segments.specs.Staging.{completed}
 use Rattle.op_segments.proofs.Bringing.{piece_brought}
 use Rattle.op_chain.specs.Bringing.{IsBrought, joining_after}
@@ -137,24 +135,3 @@ pub copy_holds : (j : Joining) (batch : List Change) (copy : Joining) (copies : 
 copy_holds j batch copy copies same equal is =
     subst (λ (k : Joining). Holds k copies (joining_with_room 0 (joining_after j batch))) (sym same)
     (subst (λ (b : List Change). Holds (joining_with_room 0 j) b (joining_with_room 0 (joining_after j batch))) (sym equal) (holds_alone j batch is))
-
--- ---- the whole step
-
-module _ (me : ℕ) (s : State) (batch : List Change) (all : Applies s.durable batch) where
-  done : (e : Durable) (j : Joining) (base : List ℕ) → e.joining ≡ Some j → IsWhole j → Applies e (change.JoinDone base ∷ [])
-  done e j base is whole = (subst (λ (o : Option Joining). JoiningOptionApplies o (change.JoinDone base)) (sym is) whole, tt)
-
-  goes : (j : Joining) (b : Option Base) (es : Option (List Entry)) → (durable_after s.durable batch).joining ≡ Some j → cover_of j ≡ es → Applies s.durable (goes_on_if me s j batch b es).batch
-  goes j None es is covers = all
-  goes j (Some b) None is covers = all
-  goes j (Some b) (Some es) is covers =
-      applies_both s.durable batch (change.JoinDone (base_bytes (joined_service b es)) ∷ []) all
-      (done (durable_after s.durable batch) j (base_bytes (joined_service b es)) is (ap (λ (o : Option (List Entry)). is_some o) covers))
-
-  holds : (o : Option Joining) → (durable_after s.durable batch).joining ≡ o → Applies s.durable (holding me s batch o).batch
-  holds None is = all
-  holds (Some j) is = goes j j.base (cover_of j) is refl
-
-  -- a node holds more, and goes on once it has all
-  pub holds_applies : Applies s.durable (holds_more me s batch).batch
-  holds_applies = holds (durable_after s.durable batch).joining refl

@@ -39,7 +39,7 @@ use Rattle.op_instance.specs.declared.volatile.Volatile.{Volatile}
 use Rattle.op_instance.proofs.StepsApply.{sound_step}
 use Rattle.op_deciding.specs.Deciding.{IsServed}
 use Rattle.op_chain.specs.Bringing.{joining_after, joined, IfJoined, turn_beside, turn_holding}
-use Rattle.op_chain.specs.Chains.{state_of, HaveBases, IsSoundChain, IsSame, Admits}
+use Rattle.op_chain.specs.Chains.{state_of, HaveBases, IsSoundChain, Admits}
 use Rattle.op_chain.specs.Plans.{renewed, planned_by, made_by, IsPartAfter, Stays, BeginsIn, LeavesWith, HasRoomToTell, Prepares, waiters_of, waiting_by, based_step, IfMayClose, IfCloses, IfGoesOn}
 use Rattle.op_chain.specs.declared.chain.Chain.{Chain}
 use Rattle.op_chain.specs.declared.chain_plan.ChainPlan.{ChainPlan}
@@ -110,14 +110,6 @@ sound_like a c like sound =
     record {
       node = subst (λ (n : ℕ). IsNode n c.durable c.volatile) (sym like.me) stored;
       bases = subst HaveBases (sym like.durable) sound.bases;
-    }
-
-pub same_like : (a c : Chain) → IsLike a c → IsSoundChain a → IsSame a c
-same_like a c like sound =
-    record {
-      me = like.me;
-      state = state_is (ap (λ (d : Durable). with_room no_needs d) like.durable) (like.same) like.service like.waiting;
-      sound = sound_like a c like sound;
     }
 
 -- the state of a chain whose log has no room
@@ -442,11 +434,3 @@ closes_like a c kv old new r like closes =
     (subst (λ (s : Service). IfCloses a.me a.durable.part (service_over s kv) (role_of c.volatile.role) old new r) like.service
     (subst (λ (d : Durable). IfCloses a.me d.part (service_over c.service.service kv) (role_of c.volatile.role) old new r) like.durable
     (subst (λ (n : ℕ). IfCloses n c.durable.part (service_over c.service.service kv) (role_of c.volatile.role) old new r) like.me closes)))
-
--- and so is what goes on
-pub goes_like : (a c : Chain) (m : Option MapState) (old new : Plan) (r : Option Renewal) → IsLike a c
-    → IfGoesOn c.me c.durable.joining m (role_of c.volatile.role) old new r → IfGoesOn a.me a.durable.joining m (role_of a.volatile.role) old new r
-goes_like a c m old new r like goes =
-    subst (λ (v : step.Volatile). IfGoesOn a.me a.durable.joining m v.role old new r) like.same
-    (subst (λ (d : Durable). IfGoesOn a.me d.joining m (role_of c.volatile.role) old new r) like.durable
-    (subst (λ (n : ℕ). IfGoesOn n c.durable.joining m (role_of c.volatile.role) old new r) like.me goes))

@@ -203,10 +203,6 @@ beside_role : (o : Option Base) (r : Role) → turned (turn_beside o) r ≡ r
 beside_role None r = refl
 beside_role (Some b) r = refl
 
-pub holding_role : (o : Option Joining) (batch : List Change) (r : Role) → turned (turn_holding o batch) r ≡ r
-holding_role None batch r = refl
-holding_role (Some j) batch r = beside_role (joining_after j batch).base r
-
 -- what is staged of a log stays where no promise is raised
 calm : (batch : List Change) (staged : Held) → raises_promise batch ≡ false → staged_after batch staged ≡ staged
 calm batch staged is = cond-false (raises_promise batch) [] staged is

@@ -6,8 +6,8 @@ ghost use Rattle.op_chain.specs.Answering.{giving_reply, dropped_of};
 use crate::waiting_set::WaitingSet;
 use op_types::{Replies, Reply, Reserved};
 
-/// Tells those that wait for what is given up, in order: there is room for a reply to each. Who proposed a stop-sign, by
-/// client 0 and number 0, is told too.
+/// Tells those that wait for what is given up, in order: there is room for a reply to each. Who proposed a
+/// stop-sign, by client 0 and number 0, is told too.
 pub(crate) fn give_up(waiting: &mut WaitingSet, told: &mut Reserved<Reply>, replies: Replies)
     requires { length replies ≤ told.old.room }
     ensures told { dropped_of waiting.new told.new

@@ -95,8 +95,8 @@ impl Chain {
         })
     }
 
-    /// A node that is opened again, and has stored this. Its service is made anew from its base and what is decided behind
-    /// it, and nobody waits.
+    /// A node that is opened again, and has stored this. Its service is made anew from its base and what is
+    /// decided behind it, and nobody waits.
     pub fn again(alloc: Global, me: Pid, durable: Durable) -> Result<Chain, NoMemory>
         requires { CanOpen me durable }
         ensures me { IfOk result (λ c. c.me ≡ me) }
@@ -118,7 +118,8 @@ impl Chain {
         })
     }
 
-    /// What a step is to do, with all the memory that it takes. Nothing changes but room, and a plan may be dropped.
+    /// What a step is to do, with all the memory that it takes. Nothing changes but room, and a plan may be
+    /// dropped.
     pub fn plan(&mut self, input: Input) -> Result<ReadyPlan, NoMemory>
         requires { Admits self.old input }
         ensures same { IsSame self.old self.new }
@@ -182,7 +183,8 @@ impl Chain {
         }
     }
 
-    /// The plan of an input that brings nothing of a closed list: the part that decides its stop-sign is closed.
+    /// The plan of an input that brings nothing of a closed list: the part that decides its stop-sign is
+    /// closed.
     fn plan_step(&mut self, input: Input) -> Result<ReadyPlan, NoMemory>
         requires admits { Admits self.old input }
         requires rested { with_room no_needs self.old.durable ≡ self.old.durable }
@@ -217,8 +219,8 @@ impl Chain {
         self.serve(plan)
     }
 
-    /// What the plan decides is served, and its part closed where it decides a stop-sign. There is room then for all who are
-    /// told, and still for those that are to wait, unless they are refused.
+    /// What the plan decides is served, and its part closed where it decides a stop-sign. There is room then
+    /// for all who are told, and still for those that are to wait, unless they are refused.
     fn serve(&mut self, plan: &mut ChainPlan) -> Result<(), NoMemory>
         requires may { IfMayClose self.old.durable.part plan.old.plan.batch }
         requires nothing { plan.old ≡ record nothing_ready { plan = plan.old.plan } }
@@ -241,8 +243,8 @@ impl Chain {
         plan.make_room()
     }
 
-    /// The plan of changes by which a node that joins holds more: it goes on in the new configuration with this service, if
-    /// it has all then.
+    /// The plan of changes by which a node that joins holds more: it goes on in the new configuration with
+    /// this service, if it has all then.
     #[inline(never)]
     fn plan_joining(&mut self, batch: Batch, service: Option<Map>) -> Result<ReadyPlan, NoMemory>
         requires sound { IsSoundChain self.old }
@@ -269,8 +271,8 @@ impl Chain {
         Ok(ReadyPlan::new(boxed))
     }
 
-    /// What the input does in the configurations, but for the base of what it trims. Nothing changes yet, but the room that
-    /// the plan's turn needs, and the room for the clients of the input's commands.
+    /// What the input does in the configurations, but for the base of what it trims. Nothing changes yet, but
+    /// the room that the plan's turn needs, and the room for the clients of the input's commands.
     fn step(&mut self, input: Input, plan: &mut Plan) -> Result<(), NoMemory>
         requires sound { IsSoundChain self.old }
         requires nothing { plan.old ≡ nothing_plan }
@@ -300,8 +302,8 @@ impl Chain {
         stored.step(&mut self.volatile, input, plan)
     }
 
-    /// Where a plan decides its part's stop-sign, the part is closed: the new members hear of the next configuration, and
-    /// all that is kept in memory of the part begins anew.
+    /// Where a plan decides its part's stop-sign, the part is closed: the new members hear of the next
+    /// configuration, and all that is kept in memory of the part begins anew.
     fn close(&self, plan: &mut ChainPlan) -> Result<(), NoMemory>
         requires settled { self.now.service.waiting ≡ 0 }
         requires may { IfMayClose self.now.durable.part plan.old.plan.batch }
@@ -363,8 +365,8 @@ impl Chain {
         Anew::from_renewal(self.alloc, renewal)
     }
 
-    /// Where a node that joins has all, so that this is its service, it goes on in the new configuration: whoever leads is
-    /// asked to prepare it.
+    /// Where a node that joins has all, so that this is its service, it goes on in the new configuration:
+    /// whoever leads is asked to prepare it.
     fn go_on(&self, plan: &mut Plan, service: Option<Map>) -> Result<Anew, NoMemory>
         ensures { IfOk result (IfGoesOn self.now.me self.now.durable.joining service
             (role_of self.now.volatile.role) plan.old plan.new) }
@@ -528,8 +530,8 @@ impl Chain {
         &self.service
     }
 
-    /// The ballot that the node stands for, its leader's as far as it knows, and the one that it promised; none without a
-    /// part.
+    /// The ballot that the node stands for, its leader's as far as it knows, and the one that it promised;
+    /// none without a part.
     pub fn ballots(&self) -> Option<(Ballot, Ballot, Ballot)>
         ensures { result ≡ ballots_in (state_of self.now).volatile (state_of self.now).durable.part }
     {

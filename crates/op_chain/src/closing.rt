@@ -58,8 +58,8 @@ fn given_up_with(
     Ok(replies)
 }
 
-/// The news of the configuration after a part's, to those of its members that weren't in the part's: the batch decides this
-/// stop-sign.
+/// The news of the configuration after a part's, to those of its members that weren't in the part's: the
+/// batch decides this stop-sign.
 pub(crate) fn push_news(
     alloc: Global,
     sends: &mut Sends,

@@ -17,8 +17,9 @@ use op_types::{
 };
 use std::alloc::Global;
 
-/// What an input brings to a node that joins, with so much of a base as came in pieces. It takes a base where it holds none,
-/// and entries; both have to stand in the closed list, and to be of the configuration that it joins.
+/// What an input brings to a node that joins, with so much of a base as came in pieces. It takes a base where
+/// it holds none, and entries; both have to stand in the closed list, and to be of the configuration that it
+/// joins.
 pub(crate) fn bringing(
     alloc: Global,
     latest: ConfNo,
@@ -191,7 +192,8 @@ fn holding(alloc: Global, joining: &Joining, batch: &Batch) -> Result<Option<Joi
 }
 
 #[tactic(auto, using(crate::proofs::Beside::drops_still, crate::proofs::Beside::drops_then, crate::proofs::Beside::stays_then))]
-/// The turn of a step by which a node that joins holds these changes: no piece of a base stays staged beside a base.
+/// The turn of a step by which a node that joins holds these changes: no piece of a base stays staged beside
+/// a base.
 pub(crate) fn turn_holding(joining: &Option<Joining>, batch: &[Change]) -> Turn
     ensures { result ≡ turn_holding joining.now batch.now }
 {

@@ -1,5 +1,5 @@
-//! A node over all its configurations, its service and its waiting clients, without its disks and its reads: each step is
-//! planned with all the memory that it takes, and adopted once its batch is stored.
+//! A node over all its configurations, its service and its waiting clients, without its disks and its reads:
+//! each step is planned with all the memory that it takes, and adopted once its batch is stored.
 #![tactic(auto)]
 
 mod answering;

@@ -4,7 +4,8 @@ use crate::chain_plan::ChainPlan;
 use op_types::{Batch, Sends};
 use std::marker::Model;
 
-/// A plan that is ready: it can be adopted, or dropped. It lies on the heap, so that it is handed on without being moved.
+/// A plan that is ready: it can be adopted, or dropped. It lies on the heap, so that it is handed on without
+/// being moved.
 pub struct ReadyPlan {
     plan: Box<ChainPlan>,
 }

@@ -10,8 +10,8 @@ use op_types::{Body, Joining, Members, Msg, NoMemory, Pid, Replies, Sends, is_am
 use std::alloc::Global;
 use std::marker::Model;
 
-/// What a node has in memory when it goes on in another configuration, or in none: all that it kept of its part begins
-/// anew.
+/// What a node has in memory when it goes on in another configuration, or in none: all that it kept of its
+/// part begins anew.
 #[derive(Drop)]
 pub(crate) struct Renewal {
     pub(crate) volatile: Volatile,

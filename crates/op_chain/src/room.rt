@@ -9,7 +9,8 @@ use std::alloc::Global;
 pub(crate) struct Room {
     /// For all who are answered or told.
     pub(crate) replies: Reserved<Reply>,
-    /// For those whose proposals a row gives up: they are told after the others, but wait no longer before them.
+    /// For those whose proposals a row gives up: they are told after the others, but wait no longer before
+    /// them.
     pub(crate) told: Reserved<Reply>,
 }
 
@@ -24,7 +25,8 @@ impl Room {
         }
     }
 
-    /// Makes room for so many replies: to those who are served, given up by a row, and told by what begins anew.
+    /// Makes room for so many replies: to those who are served, given up by a row, and told by what begins
+    /// anew.
     pub(crate) fn make(
         &mut self,
         served: usize,

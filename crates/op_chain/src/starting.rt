@@ -44,7 +44,8 @@ pub fn empty_durable() -> Durable
     }
 }
 
-/// A member that is opened again asks whoever leads to prepare it; one that joins another configuration asks nobody.
+/// A member that is opened again asks whoever leads to prepare it; one that joins another configuration asks
+/// nobody.
 pub fn sends_after_restart(alloc: Global, me: Pid, durable: &Durable) -> Result<Sends, NoMemory>
     ensures { IfOk result (λ sends. sends ≡ starts.sends_after_restart me durable.now) }
 {

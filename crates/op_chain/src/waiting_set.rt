@@ -11,8 +11,8 @@ use std::marker::Model;
 /// A client, and the number of the command for whose reply it waits.
 pub type Waiter = (u64, u64);
 
-/// All that wait, each once. Room for others is made before they wait, so that letting them wait takes no memory. A call
-/// takes time that grows with how many are added, and as the logarithm of how many wait.
+/// All that wait, each once. Room for others is made before they wait, so that letting them wait takes no
+/// memory. A call takes time that grows with how many are added, and as the logarithm of how many wait.
 #[derive(Drop)]
 pub struct WaitingSet {
     pairs: BTreeSet<Waiter>,
@@ -42,8 +42,8 @@ impl WaitingSet {
         }
     }
 
-    /// Makes room for the clients of these commands, which are to wait. Until `let_wait`, and without memory, nobody waits
-    /// that didn't.
+    /// Makes room for the clients of these commands, which are to wait. Until `let_wait`, and without memory,
+    /// nobody waits that didn't.
     pub fn make_room(&mut self, commands: &[Command]) -> Result<(), NoMemory>
         ensures same { self.new.waiting ≡ self.old.waiting }
         ensures room { OnOk result (self.new.next
@@ -88,7 +88,8 @@ impl WaitingSet {
         self.coming.clear();
     }
 
-    /// The client waits for the number no longer; says whether it did. Room that was made is given up. It takes no memory.
+    /// The client waits for the number no longer; says whether it did. Room that was made is given up. It
+    /// takes no memory.
     pub fn remove(&mut self, client: u64, seq: u64) -> bool
         ensures waited { result ≡ waits self.old.waiting client seq }
         ensures others { self.new.waiting ≡ without_waiting self.old.waiting client seq }

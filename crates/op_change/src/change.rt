@@ -29,9 +29,9 @@ use std::alloc::Global;
 use std::collections::BTreeSet;
 use std::marker::Model;
 
-/// What commands wrote that a map has not taken in: pairs, keys that were taken out, the clients' last commands, and
-/// clients that were forgotten. A key's pair stands over its being taken out, and a client's command over its being
-/// forgotten.
+/// What commands wrote that a map has not taken in: pairs, keys that were taken out, the clients' last
+/// commands, and clients that were forgotten. A key's pair stands over its being taken out, and a client's
+/// command over its being forgotten.
 #[derive(Drop)]
 pub struct KvChange {
     pub(crate) pairs: Overlay<Blob, Blob>,
@@ -94,7 +94,8 @@ impl KvChange {
         Ok(())
     }
 
-    /// What the service of the tables below and of this change answers a command, which takes its effect here.
+    /// What the service of the tables below and of this change answers a command, which takes its effect
+    /// here.
     pub fn serve(
         &mut self,
         alloc: Global,
@@ -111,7 +112,8 @@ impl KvChange {
         }
     }
 
-    /// What a number is answered that isn't above its client's last one: the last one's answer, or that it is stale.
+    /// What a number is answered that isn't above its client's last one: the last one's answer, or that it is
+    /// stale.
     fn told_again(
         &self,
         alloc: Global,

@@ -9,12 +9,12 @@ use std::alloc::Global;
 
 /// Asks the node at this address, and gives its reply.
 ///
-/// It dials once. Then, at most 1,000 times, it writes what is left of the request until the connection takes no more,
-/// waits 100 milliseconds at most, and reads once for each time that the connection has bytes. The first whole frame
-/// ends it. What happens to other connections does nothing.
+/// It dials once. Then, at most 1,000 times, it writes what is left of the request until the connection takes
+/// no more, waits 100 milliseconds at most, and reads once for each time that the connection has bytes. The
+/// first whole frame ends it. What happens to other connections does nothing.
 ///
-/// A connection that was dialled is closed at the end, however the call ends. So after a call of the net that failed
-/// there is one more at most, this `close`, which a net takes at any time and which does not fail.
+/// A connection that was dialled is closed at the end, however the call ends. So after a call of the net that
+/// failed there is one more at most, this `close`, which a net takes at any time and which does not fail.
 pub fn call<N: Net>(
     alloc: Global,
     net: &mut N,

@@ -17,8 +17,9 @@ use crate::cluster_fail::ClusterFail;
 use op_outside::{ChildFail, Sink, Spawner};
 use op_types::Pid;
 
-/// Starts a child under each id, by rising id, with this standard input. Then it waits for each, by rising id, and
-/// writes the line `child ID status S` as soon as that child has ended. It stops at the first failure, and takes no memory.
+/// Starts a child under each id, by rising id, with this standard input. Then it waits for each, by rising
+/// id, and writes the line `child ID status S` as soon as that child has ended. It stops at the first
+/// failure, and takes no memory.
 pub fn cluster<K: Sink, P: Spawner>(
     ids: &[Pid],
     input: &[u8],

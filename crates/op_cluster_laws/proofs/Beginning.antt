@@ -8,7 +8,7 @@ use Rattle.std.proofs.lemmas.Map.Made.{All-is_member}
 use Rattle.std.proofs.lemmas.List.Elements.{All-nil, All-cons, All-head, All-tail, All-weaker}
 use Rattle.op_types.specs.Ranges.{IsPid, IsMember, AreRising, MembersInRange}
 use Rattle.op_runs.specs.Possible.{SparesInRange, ObserversInRange, WhatInRange, kind_if, kind_in, proposals_in, server_ids}
-use Rattle.op_runs.specs.Schedules.{seated, seated_at, beginning, begun}
+use Rattle.op_runs.specs.Schedules.{seated, seated_at, beginning, observers_begun}
 use Rattle.op_runs.specs.World.{World, Node, Happening, done_event, first_node, first_observer, first_world, insert_node, node_at, node_ids, run_of, world_after}
 use Rattle.op_runs.proofs.Servers.{all_at, first_ids, none_found}
 use Rattle.op_bounds.proofs.Known.{nodes_are_ids, rising_ids}
@@ -101,9 +101,9 @@ abbrev with_observer : World → ℕ → World
 with_observer w x = record w { observers = insert_node w.observers (first_observer w.members x) }
 
 one_begins : (x : ℕ) (ids : List ℕ) (w : World) → AreRising x ids → node_at w.nodes x ≡ None → node_at w.observers x ≡ None
-    → HaveBegun (with_observer w x) (run_of (with_observer w x) (begun ids)) ids → HaveBegun w (run_of w (begun (x ∷ ids))) (x ∷ ids)
+    → HaveBegun (with_observer w x) (run_of (with_observer w x) (observers_begun ids)) ids → HaveBegun w (run_of w (observers_begun (x ∷ ids))) (x ∷ ids)
 one_begins x ids w r a b k =
-    subst (λ (u : World). HaveBegun w (run_of u (begun ids)) (x ∷ ids)) (sym (starts w x a b)) (record {
+    subst (λ (u : World). HaveBegun w (run_of u (observers_begun ids)) (x ∷ ids)) (sym (starts w x a b)) (record {
       nodes = k.nodes;
       members = k.members;
       messages = k.messages;
@@ -113,7 +113,7 @@ one_begins x ids w r a b k =
     })
   where
     end : World
-    end = run_of (with_observer w x) (begun ids)
+    end = run_of (with_observer w x) (observers_begun ids)
 
     is_there : (q : ℕ) → is_member nat_eq (x ∷ ids) q ≡ true → node_at end.observers q ≡ Some (first_observer w.members q)
     is_there q one = elim (cases_eq x q) [
@@ -125,7 +125,7 @@ one_begins x ids w r a b k =
 
 -- so it is where they rise, and no server has one of their ids
 all_begin : (low : ℕ) (ids : List ℕ) (w : World) → AreRising low ids → ((q : ℕ) → IsMember ids q → node_at w.nodes q ≡ None) → ((q : ℕ) → IsMember ids q → node_at w.observers q ≡ None)
-    → HaveBegun w (run_of w (begun ids)) ids
+    → HaveBegun w (run_of w (observers_begun ids)) ids
 all_begin low [] w r a b = record { nodes = refl; members = refl; messages = refl; lines = refl; there = λ q one. absurd (false≢true one); others = λ q none. refl }
 all_begin low (x ∷ ids) w r a b =
     one_begins x ids w r.2 (a x (own_id x ids)) (b x (own_id x ids))
@@ -176,7 +176,7 @@ module _ (members spares observers : List ℕ) (ms : MembersInRange members) (ss
   unseated p own = none_found first.nodes p (ap (λ (l : List ℕ). is_member nat_eq l p) (first_ids members (node_ids members spares)) ∙ no_node p own)
 
   abbrev pub begun_world : World
-  begun_world = run_of first (begun observers)
+  begun_world = run_of first (observers_begun observers)
 
   all_begun : HaveBegun first begun_world observers
   all_begun = all_begin 0 observers first os.rising unseated (λ q own. refl)
@@ -202,23 +202,23 @@ module _ (members spares observers : List ℕ) (ms : MembersInRange members) (ss
 -- ---- what their starts are
 
 -- each is in range
-begun_fit : (ids : List ℕ) → All IsPid ids → All (λ (h : Happening). WhatInRange h.event.what) (begun ids)
+begun_fit : (ids : List ℕ) → All IsPid ids → All (λ (h : Happening). WhatInRange h.event.what) (observers_begun ids)
 begun_fit [] fit = All-nil (λ (h : Happening). WhatInRange h.event.what)
 begun_fit (x ∷ ids) fit =
-    All-cons (λ (h : Happening). WhatInRange h.event.what) (done_event (beginning x)) (begun ids) (All-head IsPid x ids fit) (begun_fit ids (All-tail IsPid x ids fit))
+    All-cons (λ (h : Happening). WhatInRange h.event.what) (done_event (beginning x)) (observers_begun ids) (All-head IsPid x ids fit) (begun_fit ids (All-tail IsPid x ids fit))
 
-pub begun_range : (ids : List ℕ) → AreRising 0 ids → All (λ (h : Happening). WhatInRange h.event.what) (begun ids)
+pub begun_range : (ids : List ℕ) → AreRising 0 ids → All (λ (h : Happening). WhatInRange h.event.what) (observers_begun ids)
 begun_range ids rising = begun_fit ids (rising_ids 0 ids rising)
 
 -- none proposes anything, nor asks for anything
-pub begun_proposals : (ids : List ℕ) → proposals_in (begun ids) ≡ 0
+pub begun_proposals : (ids : List ℕ) → proposals_in (observers_begun ids) ≡ 0
 begun_proposals [] = refl
 begun_proposals (x ∷ ids) = let k = begun_proposals ids in omega (arith, k)
 
-pub begun_commands : (ids : List ℕ) → commands_in (begun ids) ≡ []
+pub begun_commands : (ids : List ℕ) → commands_in (observers_begun ids) ≡ []
 begun_commands [] = refl
 begun_commands (x ∷ ids) = begun_commands ids
 
-pub begun_reads : (ids : List ℕ) → reads_in (begun ids) ≡ []
+pub begun_reads : (ids : List ℕ) → reads_in (observers_begun ids) ≡ []
 begun_reads [] = refl
 begun_reads (x ∷ ids) = begun_reads ids

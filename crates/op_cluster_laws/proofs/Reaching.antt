@@ -19,7 +19,7 @@ use Rattle.op_types.specs.declared.messages.Msg.{Msg}
 use Rattle.op_runs.specs.Replies.{IfReplyServed}
 use Rattle.op_spec.specs.Stands.{Stands}
 use Rattle.op_runs.specs.Possible.{SparesInRange, ObserversInRange, HappeningsInRange, server_ids}
-use Rattle.op_runs.specs.Schedules.{seated_at, begun}
+use Rattle.op_runs.specs.Schedules.{seated_at, observers_begun}
 use Rattle.op_runs.specs.Run.{Execution, first_execution, execution_of, execution_with, IsSound, MeetsFrom, ServesDecided}
 use Rattle.op_runs.specs.World.{Kind, Votes, Observes, World, Node, Happening, first_world, run_of, answer_line}
 use Rattle.op_bounds.specs.Messages as known
@@ -155,7 +155,7 @@ answers_come_first members spares observers ms ss os counts trace c =
       run,
       λ now later split.
           let j = (whole members spares observers counts ms ss os trace c).moments now later split in
-          let first : List Happening = begun observers ++ j.0 in
+          let first : List Happening = observers_begun observers ++ j.0 in
           let split_so = front_of members spares observers counts ms ss os trace c j.0 j.1 j.2 in
           let t : Execution = execution_of t0 first in
           let known : ℕ = greatest_conf t.world.nodes in
@@ -213,10 +213,10 @@ always_reached members spares observers ms ss os counts trace c = (
   λ now later split.
       let j = (whole members spares observers counts ms ss os trace c).moments now later split in
       record {
-        first = begun observers ++ j.0;
+        first = observers_begun observers ++ j.0;
         later = j.1;
         split = front_of members spares observers counts ms ss os trace c j.0 j.1 j.2;
-        moment = moment_of members spares observers counts ms ss os trace c now (begun observers ++ j.0) j.1 (front_of members spares observers counts ms ss os trace c j.0 j.1 j.2) j.3;
+        moment = moment_of members spares observers counts ms ss os trace c now (observers_begun observers ++ j.0) j.1 (front_of members spares observers counts ms ss os trace c j.0 j.1 j.2) j.3;
         events = (j.0, refl, j.4);
         messages = λ p is d m there. (j.3).messages now [] (sym (append-nil now)) p is d m there;
         lines = λ read p is r there. (j.3).replies read p is r there;

@@ -26,7 +26,7 @@ use Rattle.op_laws.proofs.RepliesServed.{every_reply_is_served}
 use Rattle.op_runs.specs.declared.events.What.{What}
 use Rattle.op_runs.specs.declared.events.What.TheVariants as what
 use Rattle.op_runs.specs.Possible.{SparesInRange, ObserversInRange, WhatInRange, HappeningsInRange, kind_in, proposals_of, proposals_in, server_ids}
-use Rattle.op_runs.specs.Schedules.{Seated, seated_at, begun}
+use Rattle.op_runs.specs.Schedules.{Seated, seated_at, observers_begun}
 use Rattle.op_runs.specs.Run.{Execution, first_execution, execution_of}
 use Rattle.op_runs.specs.World.{Kind, Votes, Observes, World, Sent, Happening, first_world, run_of, answer_line, sends_as, Up}
 use Rattle.op_bounds.specs.Laws.{SentInRange, WorldInRange}
@@ -268,7 +268,7 @@ module _ (members spares observers : List ℕ) (counts : ℕ → ℕ) (ms : Memb
     pub range : All (λ h. WhatInRange h.event.what) hs
     pub proposals : proposals_in hs ≤ proposed_behind members observers counts [] now
 
-  begins_beside : Beside [] (begun observers)
+  begins_beside : Beside [] (observers_begun observers)
   begins_beside = record {
     nodes = λ p is. (let k : Kind = kind_in observers p in
         record { me = refl; found = first_as k members p; there = begun_seat members spares observers ms ss os p is; pid = first_pid k members p; state = refl; up = first_up k members p });
@@ -280,7 +280,7 @@ module _ (members spares observers : List ℕ) (counts : ℕ → ℕ) (ms : Memb
     linked = λ p is. refl;
     asked = λ c k. absurd (subst (λ l. IsAmong l c) (begun_commands observers) k);
     read = λ r k. absurd (subst (λ l. IsAmong l r) (begun_reads observers) k);
-    taken = λ c conf k. elim (proposed_run c (first_execution members spares) (begun observers) conf k) [
+    taken = λ c conf k. elim (proposed_run c (first_execution members spares) (observers_begun observers) conf k) [
       | inl old ↦ absurd old
       | inr there ↦ absurd (subst (λ l. IsAmong l c) (begun_commands observers) there)
     ];
@@ -776,12 +776,12 @@ module _ (members spares observers : List ℕ) (counts : ℕ → ℕ) (ms : Memb
         let one = one_more before hs b x is (may_next before mid x.pid x.event split is) heard (told_next before (x ∷ mid) hs x.pid x.event split b is heard) in
         run_behind before mid hs x b one.0 one.2 (run_from (before ++ x ∷ []) mid (hs ++ one.0) (split ∙ sym (append_assoc before (x ∷ []) mid)) one.1)
 
-    pub whole : Run [] (begun observers) trace
-    whole = run_from [] trace (begun observers) refl begins_beside
+    pub whole : Run [] (observers_begun observers) trace
+    whole = run_from [] trace (observers_begun observers) refl begins_beside
 
     -- all happenings of the run, with the starts of its observers
     abbrev pub happenings : List Happening
-    happenings = begun observers ++ whole.more
+    happenings = observers_begun observers ++ whole.more
 
     in_range : HappeningsInRange happenings
     in_range = record { few = (let a = whole.end.proposals in let b = c.proposals in omega (arith, a, b)); each = whole.end.range }
@@ -799,13 +799,13 @@ module _ (members spares observers : List ℕ) (counts : ℕ → ℕ) (ms : Memb
         }
 
     -- the happenings of a first part are the first of all
-    pub front_of : (first last : List Happening) → whole.more ≡ first ++ last → happenings ≡ (begun observers ++ first) ++ last
-    front_of first last e = ap (λ (l : List Happening). begun observers ++ l) e ∙ sym (append_assoc (begun observers) first last)
+    pub front_of : (first last : List Happening) → whole.more ≡ first ++ last → happenings ≡ (observers_begun observers ++ first) ++ last
+    front_of first last e = ap (λ (l : List Happening). observers_begun observers ++ l) e ∙ sym (append_assoc (observers_begun observers) first last)
 
     pub is_run : IsRun members spares observers counts trace happenings
     is_run = record {
       moments = λ now later e. (let j = whole.moments now later e in
-          let front = front_of j.0 j.1 j.2 in (begun observers ++ j.0, j.1, front, moment_of now (begun observers ++ j.0) j.1 front j.3));
+          let front = front_of j.0 j.1 j.2 in (observers_begun observers ++ j.0, j.1, front, moment_of now (observers_begun observers ++ j.0) j.1 front j.3));
       range = in_range;
       meets = every_run_meets members spares ms ss happenings in_range;
     }
@@ -815,4 +815,4 @@ module _ (members spares observers : List ℕ) (counts : ℕ → ℕ) (ms : Memb
         let x : Happened = record { pid = p; event = does (enters who (input.Deliver q msg) fate) } in
         let j = whole.moments early (x ∷ later) split in
         let is : IsNode p = all_at (λ y. IsNode y.pid) early x later (subst (λ l. All (λ y. IsNode y.pid) l) split c.nodes) in
-        read_then early (x ∷ later) (begun observers ++ j.0) split j.3 p q msg is (cause_next early later p (enters who (input.Deliver q msg) fate) split is).0
+        read_then early (x ∷ later) (observers_begun observers ++ j.0) split j.3 p q msg is (cause_next early later p (enters who (input.Deliver q msg) fate) split is).0

@@ -10,7 +10,7 @@ use Rattle.op_runs.specs.declared.events.What.TheVariants as what
 use Rattle.op_runs.specs.declared.summary.Line.{Line}
 use Rattle.op_runs.specs.declared.summary.Line.TheVariants as line
 use Rattle.op_protocol.specs.State.{State}
-use Rattle.op_runs.specs.Schedules.{begun}
+use Rattle.op_runs.specs.Schedules.{observers_begun}
 use Rattle.op_runs.specs.World.{Kind, World, Sent, Happening, Fate, Done, answer_line, first_world, run_of}
 use Rattle.op_serving.specs.Cores.{Standing}
 use Rattle.op_serving.specs.Fates as fates
@@ -104,5 +104,5 @@ BecomeBehind members spares observers faulted before hs (x ∷ xs) gs =
 -- a trace becomes these happenings, behind those in which the observers begin
 abbrev pub TraceBecomes : List ℕ → List ℕ → List ℕ → (ℕ → ℕ) → List Happened → List Happening → Type 0
 TraceBecomes members spares observers faulted trace hs =
-    (later : List Happening) × (hs ≡ begun observers ++ later)
-    × BecomeBehind members spares observers faulted [] (begun observers) trace later
+    (later : List Happening) × (hs ≡ observers_begun observers ++ later)
+    × BecomeBehind members spares observers faulted [] (observers_begun observers) trace later

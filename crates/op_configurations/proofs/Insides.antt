@@ -28,9 +28,6 @@ pub record IsInside (f : Fate) (st : State) (e : Event) (x : Inside) : Type 0 wh
 abbrev pub Shape : Fate → State → Event → List Inside → Type 0
 Shape f st e xs = (xs ≡ []) ⊎ ((x : Inside) × (xs ≡ x ∷ []) × IsInside f st e x)
 
-none_some : {A : Type 0} (a : A) → None ≡ Some a → ⊥
-none_some a e = cc
-
 elected_starts : (n : ℕ) → Elected n ≡ Starts → ⊥
 elected_starts n e = cc
 
@@ -205,9 +202,6 @@ same_input : (f : Fate) (V : paxos.World) (e : paxos.Event) → paxos.input_of V
 unfolding paxos.input_of
 same_input ServerDone V e = refl
 same_input ServerStopped V e = refl
-
-reads_same : (n : ℕ) (l m : Letter) (k : ℕ) → Reads n l ≡ Reads k m → (n ≡ k) × (l ≡ m)
-reads_same n l m k e = (cc, cc)
 
 -- it is taken by the server, as this input
 pub taken_as : (soup : List Letter) (p : ℕ) (e : Event) → IfSentTo soup p e → (c : ℕ) (x : Inside) → x.conf ≡ c → Caused e x.conf x.number x.input → (V : paxos.World) → V.packets ≡ inner_of c soup → paxos.input_of V (event_in soup p x) ≡ Some (p, x.input)

@@ -136,14 +136,6 @@ above_less : (j k : ℕ) (ns : List ℕ) → j < k → Above k ns → Above j ns
 above_less j k [] lt h = tt
 above_less j k (n ∷ ns) lt h = (omega (arith, lt, h.0), above_less j k ns lt h.1)
 
--- the first number that passes a test passes it
-pub first_passes : (test : ℕ → Bool) (ns : List ℕ) (c : ℕ) → first test ns ≡ Some c → test c ≡ true
-first_passes test [] c e = absurd cc
-first_passes test (n ∷ ns) c e = elim (cases_Bool (test n)) [
-  | inl g ↦ (let same : n ≡ c = (let f = rw g at e in cc) in ap test (sym same) ∙ g)
-  | inr g ↦ first_passes test ns c (rw g at e)
-]
-
 module _ {X : Type 0} where
   keys_changed_at : (f : X → X) (c : ℕ) (o : Option X) (t : Table X) → keys_of (changed_at f c o t) ≡ keys_of t
   keys_changed_at f c None t = refl

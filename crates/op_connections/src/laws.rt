@@ -11,10 +11,11 @@ ghost use Rattle.op_connections.specs.Taking.{IsBetween, IsDone};
 ghost use Rattle.op_connections.specs.Telling.{ClientsAreTold};
 ghost use Rattle.op_connections.specs.Behind.{FewWaitBehind};
 
-/// Whatever net and clock answer, and wherever memory is wanting: the inputs of each connection are those of the frames of the
-/// bytes that it read, in order, each command for its own connection, and of an open one no whole frame is left, and no more than a
-/// part of a hello or a frame; the bytes that it took are the first of its hello and of the frames for it, and while it is open the others wait. No more bytes wait for it than
-/// may, so each frame that was said for it is short.
+/// Whatever net and clock answer, and wherever memory is wanting: the inputs of each connection are those of
+/// the frames of the bytes that it read, in order, each command for its own connection, and of an open one no
+/// whole frame is left, and no more than a part of a hello or a frame; the bytes that it took are the first
+/// of its hello and of the frames for it, and while it is open the others wait. No more bytes wait for it
+/// than may, so each frame that was said for it is short.
 pub fn connections_keep()
     ensures keeps { (o : Settings) (l : Luck) (line : Standing → List ℕ) (answers : List Answer) (p : Pump)
         → Begins p.driver → Answers o l line answers p → Keeps (after o l line answers p).driver }
@@ -29,24 +30,27 @@ pub fn connections_keep()
         → Begins p.driver → Answers o l line answers p → FramesAreShort (after o l line answers p).driver }
 {}
 
-/// What a client is told at its connection, while that is open, of each of its commands and reads, is what the deeds make due there:
-/// an answer that the node gives out, to whoever asked last for it, once; a refusal where the node refused that input at once, where
-/// it was lost for want of memory, or where a disk failed; and nothing else.
+/// What a client is told at its connection, while that is open, of each of its commands and reads, is what
+/// the deeds make due there: an answer that the node gives out, to whoever asked last for it, once; a refusal
+/// where the node refused that input at once, where it was lost for want of memory, or where a disk failed;
+/// and nothing else.
 pub fn clients_are_told()
     ensures told { (o : Settings) (l : Luck) (line : Standing → List ℕ) (answers : List Answer) (p : Pump)
         → Begins p.driver → Answers o l line answers p
         → ClientsAreTold p.driver.node (after o l line answers p).driver }
 {}
 
-/// No more than 65,536 frames wait behind for a connection for which there is no room, where no more did before.
+/// No more than 65,536 frames wait behind for a connection for which there is no room, where no more did
+/// before.
 pub fn few_frames_wait()
     ensures few { (o : Settings) (l : Luck) (line : Standing → List ℕ) (answers : List Answer) (p : Pump)
         → Begins p.driver → FewWaitBehind p.driver.loop → Answers o l line answers p
         → FewWaitBehind (after o l line answers p).driver.loop }
 {}
 
-/// Between two turns, and at each end for which no fault of the net is the cause, no command and no message waits to be given,
-/// and what an open connection took is all that was said for it, unless its last write took nothing.
+/// Between two turns, and at each end for which no fault of the net is the cause, no command and no message
+/// waits to be given, and what an open connection took is all that was said for it, unless its last write
+/// took nothing.
 pub fn turns_take_all()
     ensures { (o : Settings) (l : Luck) (line : Standing → List ℕ) (answers : List Answer) (p : Pump)
         → Begins p.driver → Answers o l line answers p → IsBetween (after o l line answers p).at
@@ -61,10 +65,10 @@ pub fn nodes_fold()
         ≡ folded p.driver.node (after o l line answers p).driver.deeds }
 {}
 
-/// What a run does is a function of what net and clock answered, of the marks of what was lost for want of memory, and of what
-/// came of the inputs that were not lost: two runs from one start with the same of these have the same inputs, lost ones too
-/// with what came of each, make the same calls of the net, and end in the same way and in the same state. Where else memory was
-/// wanting doesn't matter.
+/// What a run does is a function of what net and clock answered, of the marks of what was lost for want of
+/// memory, and of what came of the inputs that were not lost: two runs from one start with the same of these
+/// have the same inputs, lost ones too with what came of each, make the same calls of the net, and end in the
+/// same way and in the same state. Where else memory was wanting doesn't matter.
 pub fn runs_follow_answers()
     ensures { (o : Settings) (line : Standing → List ℕ) (answers : List Answer) (p end other : Pump)
         → IsRun o line answers p end → IsRun o line answers p other

@@ -43,8 +43,8 @@ impl Table {
         Ok(())
     }
 
-    /// Adds bytes after those that wait for a connection. Without memory nothing changes, and so for a connection that is
-    /// not in the table.
+    /// Adds bytes after those that wait for a connection. Without memory nothing changes, and so for a
+    /// connection that is not in the table.
     #[tactic(auto, using(std::proofs::lemmas::Map::Steps::set_value_same))]
     pub fn queue(&mut self, conn: Conn, bytes: &[u8]) -> Result<(), NoMemory>
         ensures ok { OnOk result (self.new ≡ appended conn bytes.now self.old) }

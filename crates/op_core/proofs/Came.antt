@@ -13,7 +13,7 @@ use Rattle.op_serving.specs.declared.node.StepFail.TheVariants as fails
 use Rattle.op_core.specs.Disks.{FindEach, unstored_after_all, Stores, StepStores}
 use Rattle.op_core.specs.Groups.{Told, starved, is_settled, EndsAs, EndsSo, end_of, LosesNext, IsCalm, IsAlone, Comes, GoesTogether, GoesOn}
 use Rattle.op_core.specs.NodeCores.{standing_of}
-use Rattle.op_core.specs.declared.end.End.TheVariants.{Settled, Broke, Lost}
+use Rattle.op_core.specs.declared.end.End.TheVariants.{Broke, Lost}
 use Rattle.op_core.specs.declared.node_core.NodeCore.{NodeCore}
 
 abbrev pub settles : Came → Type 0
@@ -213,13 +213,6 @@ module _ {D : Type 0} (state : D → DiskState) where
         ends = inr (lost_behind g.came ((y, lost) ∷ []) refl);
         together = λ up calm settled. absurd (lost_unsettled g.came y settled);
       }
-
-  -- they ended well, or for want of memory
-  pub goes_settled : (old new : NodeCore D) (xs rest : List Input) (before after : List Told) → GoesOn state (EndsAs Settled) old xs rest before after new → GoesOn state (EndsSo true rest) old xs rest before after new
-  goes_settled old new xs rest before after g = record { came = g.came; told = g.told; split = g.split; added = g.added; comes = g.comes; ends = g.ends; together = g.together }
-
-  pub goes_starved : (old new : NodeCore D) (xs rest : List Input) (before after : List Told) → GoesOn state (EndsAs Lost) old xs rest before after new → GoesOn state (EndsSo false rest) old xs rest before after new
-  goes_starved old new xs rest before after g = record { came = g.came; told = g.told; split = g.split; added = g.added; comes = g.comes; ends = inr g.ends; together = g.together }
 
   -- ---- one group behind the other
 

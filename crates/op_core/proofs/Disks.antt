@@ -29,7 +29,7 @@ use Rattle.op_bounds.proofs.Known.{servers}
 use Rattle.op_bounds.proofs.Steps.{steps_name}
 use Rattle.op_types.specs.declared.given.Given.{Given}
 use Rattle.op_node.specs.Nodes.{NodeState, node_of, stores, after_input, Stepped, IsRepresented}
-use Rattle.op_node.specs.Openings.{OpensAs, TakesWhole, disks_with, durable_for, taken_as, part_for, joining_for, is_watched, watched_part, opening_state}
+use Rattle.op_node.specs.Openings.{OpensAs, TakesWhole, disks_with, durable_for, kept_from, part_for, joining_for, is_watched, watched_part, opening_state}
 use Rattle.op_node.proofs.Whole.{watching_stays_whole}
 use Rattle.op_node.specs.Reopenings.{StoreOneOf, Restarts, RefusesAgain, count_kept}
 use Rattle.op_node.specs.Steps.{Steps as DiskSteps}
@@ -100,7 +100,7 @@ part_again (Some p) = by (is_watched p) refl
     by false e = refl
 
 -- so does either
-pub takes_taken : (k : Kind) (me : ℕ) (d : Durable) → TakesWhole k me (taken_as k me d)
+pub takes_taken : (k : Kind) (me : ℕ) (d : Durable) → TakesWhole k me (kept_from k me d)
 takes_taken Votes me d = taken me (durable_for me d) (named_for me d)
 takes_taken Observes me d = ap (λ (o : Option Part). let e : Durable = record { part = o; closed = None; joining = None } in e) (part_again d.part)
 
@@ -351,7 +351,7 @@ module _ {D : Type 0} (state : D → DiskState) where
 
       -- what it takes
       abbrev takes : Durable
-      takes = taken_as own pid d
+      takes = kept_from own pid d
 
       all_of : (u : Unstored) → Stores state u n → TakesWhole own pid d
       all_of u s = takes_one own pid d u.before.durable u.ahead.durable (finds u s) s.before_whole s.ahead_whole
@@ -498,7 +498,7 @@ module _ {D : Type 0} (state : D → DiskState) where
 
   -- ---- a node that is opened
 
-  opening_stores : (kind : Kind) (id : ℕ) (is_new : Bool) (d : Durable) → (opening_state kind id is_new d).durable ≡ taken_as kind id d
+  opening_stores : (kind : Kind) (id : ℕ) (is_new : Bool) (d : Durable) → (opening_state kind id is_new d).durable ≡ kept_from kind id d
   opening_stores kind id true d = refl
   opening_stores kind id false d = refl
 

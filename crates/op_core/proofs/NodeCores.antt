@@ -34,7 +34,7 @@ use Rattle.op_bounds.proofs.Frames.{message_is}
 use Rattle.op_types.specs.declared.given.Given.{Given}
 use Rattle.op_node.specs.Nodes as node
 use Rattle.op_node.specs.Nodes.{NodeState, node_of, stores, Stepped, AdmitsInput, IsSoundNode}
-use Rattle.op_node.specs.Openings.{OpensAs, durable_for, taken_as, watched_for, opening_state}
+use Rattle.op_node.specs.Openings.{OpensAs, durable_for, kept_from, watched_for, opening_state}
 use Rattle.op_node.proofs.NodeOpenings.{taken_in_range, watching_in_range}
 use Rattle.op_outside.specs.Disks.{DiskState}
 use Rattle.op_runs.specs.World.{Kind, Votes, Observes, plan_as, state_after_reopening, sends_as}
@@ -297,7 +297,7 @@ opened kind state me members old n sends o one =
 
 -- ---- a node that failed
 
-reopening_at : (k : Kind) (me : ℕ) (s : State) (d : Durable) → IsPid me → DurableInRange d → Fits k (state_after_reopening me s (taken_as k me d))
+reopening_at : (k : Kind) (me : ℕ) (s : State) (d : Durable) → IsPid me → DurableInRange d → Fits k (state_after_reopening me s (kept_from k me d))
 reopening_at Votes me s d one r =
     let range : StateInRange IsPid (state_after_restart me (durable_for me d)) = opening_at Votes me false d one r in
     record { durable = range.durable; volatile = range.volatile; stops = range.stops; service = range.service; order = range.order; reads = tt }
@@ -309,16 +309,16 @@ reopening_at Observes me s d one r =
 pub reopened : {D : Type 0} (state : D → DiskState) (d : Durable) (is_new : Bool) (n m : Node D) (sends : List (ℕ × Msg)) → Reopens state d is_new n m sends → IsSoundNode m → IsServable n → IsServable m
 reopened state d is_new n m sends o sound s =
     let k : NodeState = node_of n in
-    servable_as m (node_by k.kind k.me (state_after_reopening k.me k.state (taken_as k.kind k.me d)) None) o.node s.me (reopening_at k.kind k.me k.state d s.me o.range) sound
+    servable_as m (node_by k.kind k.me (state_after_reopening k.me k.state (kept_from k.kind k.me d)) None) o.node s.me (reopening_at k.kind k.me k.state d s.me o.range) sound
 
 -- so can one that is opened as after a restart
 pub restarted : {D : Type 0} (state : D → DiskState) (d : Durable) (is_new : Bool) (n m : Node D) (sends : List (ℕ × Msg)) → Restarts state d is_new n m sends → IsSoundNode m → IsServable n → IsServable m
 restarted state d is_new n m sends o sound s =
     let k : NodeState = node_of n in
-    servable_as m (node_by k.kind k.me (state_after_restart k.me (taken_as k.kind k.me d)) None) o.node s.me (opening_at k.kind k.me false d s.me o.range) sound
+    servable_as m (node_by k.kind k.me (state_after_restart k.me (kept_from k.kind k.me d)) None) o.node s.me (opening_at k.kind k.me false d s.me o.range) sound
 
 -- what it sends then is in range
-sends_in : (k : Kind) (me : ℕ) (d : Durable) → IsPid me → DurableInRange d → All SendInRange (sends_as k me (taken_as k me d))
+sends_in : (k : Kind) (me : ℕ) (d : Durable) → IsPid me → DurableInRange d → All SendInRange (sends_as k me (kept_from k me d))
 sends_in Votes me d one r =
     let again : OpeningInRange IsPid me (durable_for me d) = openings_stay IsPid servers me one (durable_for me d) (durable_any (durable_for me d) (taken_in_range me d r)) in
     All-weaker (known.SendInRange IsPid) SendInRange send_is (sends_after_restart me (durable_for me d)) again.sends

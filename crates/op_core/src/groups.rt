@@ -30,8 +30,8 @@ use op_serving::{Given, StepFail};
 use op_types::Input;
 use std::collections::VecDeque;
 
-/// The first input is taken, and those that can be stored together with it. Tells whether the others may be taken then: where a
-/// disk failed the next one is lost, as where the last one found no memory.
+/// The first input is taken, and those that can be stored together with it. Tells whether the others may be
+/// taken then: where a disk failed the next one is lost, as where the last one found no memory.
 pub fn go_on<D: Disk>(
     core: &mut NodeCore<D>,
     first: Input,
@@ -147,8 +147,8 @@ fn step_group<D: Disk>(
     End::Lost
 }
 
-/// Takes inputs one after the other, as many as can be stored together, up to the first that finds no memory. Tells whether none
-/// did.
+/// Takes inputs one after the other, as many as can be stored together, up to the first that finds no memory.
+/// Tells whether none did.
 fn take_all<D: Disk>(
     node: &mut Node<D>,
     first: Input,
@@ -184,7 +184,8 @@ fn take_all<D: Disk>(
     }
 }
 
-/// The next input that is stored together with those before it. A tick never is, and none where the record may be full.
+/// The next input that is stored together with those before it. A tick never is, and none where the record
+/// may be full.
 fn next_in_group(inputs: &mut VecDeque<Input>, gathered: &Record) -> Option<Input>
     ensures next { MatchOption result (inputs.new.items ≡ inputs.old.items)
         (λ x. (inputs.old.items ≡ x ∷ inputs.new.items) × IsCalm x) }

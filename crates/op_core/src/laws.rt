@@ -44,9 +44,10 @@ pub fn opened_nodes_store<D: Disk>()
         → IsRepresented D.state n.node → Stores D.state (all_stored (node_of n.node).state) n }
 {}
 
-/// Over each run of a node that is served its disks are themselves. Where they stood for what it had stored, each
-/// opening of it found what was stored before or behind the inputs for which they had failed, and at the end they stand for
-/// what the node has stored or, where it has failed, for what it had stored before these or was to store behind them.
+/// Over each run of a node that is served its disks are themselves. Where they stood for what it had stored,
+/// each opening of it found what was stored before or behind the inputs for which they had failed, and at the
+/// end they stand for what the node has stored or, where it has failed, for what it had stored before these
+/// or was to store behind them.
 pub fn runs_find_what_is_stored<D: Disk>()
     ensures kept { (old new : NodeCore D) (ds : List Deed) → Walks (StepStores D.state) old ds new →
         KeepBoth (disks_of D.state old.node.store) (disks_of D.state new.node.store) }

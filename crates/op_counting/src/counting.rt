@@ -56,8 +56,8 @@ pub fn synced_others(member: &Member, synced: &[Pid]) -> Result<ArrayVec<Pid, MO
     Ok(pids)
 }
 
-/// What a majority has is decided, and each synced follower is told, where the own log has this length. If that is nothing
-/// new, these messages go out. The role stays.
+/// What a majority has is decided, and each synced follower is told, where the own log has this length. If
+/// that is nothing new, these messages go out. The role stays.
 pub fn count(
     member: &Member,
     len: u64,

@@ -1,5 +1,5 @@
 -- The log that a batch leaves, change by change.
-use Rattle.std.proofs.Common.{◌≡◌, ℕ, ◌+◌, ◌-◌, ◌<◌, ◌≤◌, ◌∷◌, ◌++◌, List, [], length, take, get_or, refl, sym, ap, subst, ◌∙◌, append_assoc, append-nil, arith}
+use Rattle.std.proofs.Common.{◌≡◌, ℕ, ◌+◌, ◌-◌, ◌<◌, ◌≤◌, ◌∷◌, ◌++◌, List, [], length, take, get_or, refl, sym, ap, subst, ◌∙◌, append_assoc, arith}
 use Rattle.std.specs.Prelude.{Option, None, Result, Ok, Err, OnOk, IfOk}
 use Rattle.std.proofs.lemmas.List.{take_more, take_all}
 use Rattle.std.proofs.lemmas.List.Sums.{fold-append}
@@ -115,10 +115,6 @@ one_continued s a b c es i e inside at f g =
     subst (λ (xs : List Entry). Continues s a c xs)
     (sym (take_more es i e inside ∙ ap (λ (d : Entry). take i es ++ d ∷ []) (sym at)))
     (continued s a b c (take i es) (e ∷ []) f g)
-
--- what is served without any entry
-pub none_continued : (s : Service) (a : Served) → Continues s a a []
-none_continued s a = record { change = refl; replies = sym (append-nil a.replies); stop = refl }
 
 -- the same, where it succeeds
 pub continued_ok : {X E : Type 0} (r : Result X E) (s : Service) (a b c : Served) (xs ys zs : List Entry) → xs ++ ys ≡ zs → Continues s a b xs → OnOk r (Continues s b c ys) → OnOk r (Continues s a c zs)

@@ -1,4 +1,5 @@
-//! What a batch newly decides, of the log as the batch leaves it: nothing is applied for it, and nothing copied.
+//! What a batch newly decides, of the log as the batch leaves it: nothing is applied for it, and nothing
+//! copied.
 ghost use Rattle.std.specs.Prelude.{◌≡◌, ◌+◌, ◌-◌, length, take, drop, IfOk, OnOk};
 ghost use Rattle.op_protocol.specs.Parts.{part_after, decided_since};
 ghost use Rattle.op_protocol.specs.Rows.{newly_decided};
@@ -175,8 +176,8 @@ fn serve_between(
     }
 }
 
-/// What is appended to a log of this length is served after the others, as far as it stands in a slice. Tells the log's
-/// length then.
+/// What is appended to a log of this length is served after the others, as far as it stands in a slice. Tells
+/// the log's length then.
 fn serve_appended(
     alloc: Global,
     service: &Map,

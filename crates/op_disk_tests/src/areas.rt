@@ -6,7 +6,8 @@ pub type Parts = &'static [&'static [u8]];
 /// The same of two disks.
 pub type Pair = (Parts, Parts);
 
-/// Headers up to their generation: of the version of now, of the first one, of one to come, and of one that never was.
+/// Headers up to their generation: of the version of now, of the first one, of one to come, and of one that
+/// never was.
 pub const NOW: &[u8] = b"\xA5OMNIPAX\x02";
 
 pub const OLD: &[u8] = b"\xA5OMNIPAX\x01";
@@ -109,8 +110,8 @@ pub const BASE: &[u8] = &[
     0, 0, 0, 0, 0, 0, 0, 16, 0, 0, 0, 0, 0, 0, 0, 0, 0, 0, 0, 0, 0, 0, 0, 0,
 ];
 
-/// Records of steps with one change, up to its base: a trim to position 1, a close by a stop-sign that names the node, and the end of
-/// a joining.
+/// Records of steps with one change, up to its base: a trim to position 1, a close by a stop-sign that names
+/// the node, and the end of a joining.
 pub const TRIM: &[u8] = &[
     0xA5, 0, 0, 0, 0, 0, 0, 0, 35, 2, 1, 6, 0, 0, 0, 0, 0, 0, 0, 1,
 ];

@@ -1,4 +1,5 @@
-//! A boxed disk goes through generic code: one in memory, and one that tells nothing of its content, as a real file does.
+//! A boxed disk goes through generic code: one in memory, and one that tells nothing of its content, as a
+//! real file does.
 ghost use Rattle.std.specs.Prelude.{◌≤◌};
 ghost use Rattle.op_outside.specs.Disks.{untold};
 ghost use Rattle.op_outside.specs.Causes.{FaultsRose};

@@ -1,5 +1,5 @@
-//! With ample memory what is read of bytes is written in them again: so a body that always answers want of memory fails here. What
-//! the bytes of each format say is shown of its definition.
+//! With ample memory what is read of bytes is written in them again: so a body that always answers want of
+//! memory fails here. What the bytes of each format say is shown of its definition.
 
 use std::alloc::Global;
 use std::test::Fail;

@@ -1,4 +1,5 @@
-//! Openings of areas that are new, old, damaged or cut short, over disks in memory; mirrors, and disks that share a power switch.
+//! Openings of areas that are new, old, damaged or cut short, over disks in memory; mirrors, and disks that
+//! share a power switch.
 #![tactic(auto)]
 
 #[cfg(test)]

@@ -1,4 +1,5 @@
-//! Stops in a call of one copy of a mirrored area: both copies close, and are opened again as far as that call had come.
+//! Stops in a call of one copy of a mirrored area: both copies close, and are opened again as far as that
+//! call had come.
 
 use op_areas::{Area, Arming, CallAt, DiskPair, MemMirror, Opening, Stop};
 use op_memory::Power;
@@ -15,8 +16,8 @@ fn opened(alloc: Global, copies: DiskPair) -> Result<MemMirror, NoMemory> {
     }
 }
 
-/// Copies of an empty area that stopped in this call of one of them. It is asked for a write, a read, a sync, a write and a
-/// cut; whether the sync was done.
+/// Copies of an empty area that stopped in this call of one of them. It is asked for a write, a read, a sync,
+/// a write and a cut; whether the sync was done.
 fn stopped(alloc: Global, at: CallAt) -> Result<(DiskPair, bool), NoMemory> {
     let area = opened(alloc, MemMirror::empty(alloc)?)?;
     let power = Power::new(alloc)?;
@@ -52,7 +53,8 @@ fn first_of<D: Disk>(area: &mut D) -> (u64, u8) {
     (len, byte[0])
 }
 
-/// A copy, its call in which both stop, the image, and whether the sync was done, with the length and the first byte then.
+/// A copy, its call in which both stop, the image, and whether the sync was done, with the length and the
+/// first byte then.
 type Row = (u8, u8, u8, (bool, u64, u8));
 
 const ROWS: [Row; 12] = [

@@ -1,4 +1,5 @@
-//! A mirror of two disks in memory: what its opening makes of copies that differ, by which calls, and where one copy fails.
+//! A mirror of two disks in memory: what its opening makes of copies that differ, by which calls, and where
+//! one copy fails.
 
 use op_memory::MemDisk;
 use op_mirror::{Mirror, OpenCause};

@@ -1,4 +1,5 @@
-//! What openings find in areas that are new, of one version or the other, or not right, and what they leave of them.
+//! What openings find in areas that are new, of one version or the other, or not right, and what they leave
+//! of them.
 
 use crate::areas::{
     AFTER_STEP, BASE, CLOSE, CLOSED_NEWER, END, FIRST, FORGET_STEP, FRESH, JOIN_DONE, LAST,
@@ -224,7 +225,8 @@ const RECORDS: &[Kept] = &[
     ),
     ((&[NOW, FIRST, RECORD, NEXT_STEP, END], &[]), SECOND_RECORD),
     ((&[NOW, FIRST, RECORD, RECORD, END], &[]), SECOND_RECORD),
-    // It trims what isn't decided, closes by a stop-sign that isn't decided, or ends a joining that isn't there.
+    // It trims what isn't decided, closes by a stop-sign that isn't decided, or ends a joining that isn't
+    // there.
     ((&[NOW, FIRST, RECORD, TRIM, BASE, END], &[]), SECOND_RECORD),
     (
         (&[NOW, FIRST, RECORD, CLOSE, BASE, END], &[]),
@@ -249,7 +251,8 @@ const RECORDS: &[Kept] = &[
     ),
 ];
 
-/// The first version has nine members at most and no `many` and no `forget`, and of its last generation it can't be carried over.
+/// The first version has nine members at most and no `many` and no `forget`, and of its last generation it
+/// can't be carried over.
 const FIRST_VERSION: &[Kept] = &[
     ((&[OLD, FIRST, TEN_MEMBERS, END], &[]), FIRST_RECORD),
     ((&[OLD, FIRST, RECORD, MANY_STEP, END], &[]), SECOND_RECORD),

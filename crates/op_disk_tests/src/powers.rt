@@ -41,7 +41,8 @@ fn append_to_both(first: &mut MemDisk, second: &mut MemDisk) {
     }
 }
 
-/// The calls in which two disks stop, unless they are 0, what is left of each, and whether the same is pending of both.
+/// The calls in which two disks stop, unless they are 0, what is left of each, and whether the same is
+/// pending of both.
 type Row = ((u64, u64), Left<'static>, Left<'static>, bool);
 
 const ROWS: [Row; 4] = [

@@ -1,5 +1,5 @@
-//! Openings that stop in a call of a disk, and what the next one then finds: an area that is begun, one that is cut, and one of the
-//! first version that is carried over.
+//! Openings that stop in a call of a disk, and what the next one then finds: an area that is begun, one that
+//! is cut, and one of the first version that is carried over.
 
 use crate::areas::{CLOSED, END, FIRST, NOW, OLD, Pair, RECORD, SECOND, STEP, THIRD};
 use crate::stores::{Finds, disks, opened};
@@ -20,8 +20,9 @@ const EMPTY: Pair = (&[], &[]);
 /// An older area behind a closed gate.
 const OLDER: Pair = (&[END, NOW, FIRST, RECORD, STEP, END], &[]);
 
-/// Two calls read an empty disk, and seven begin an area, the last two of which open its gate; three read a disk of which more stands
-/// behind a closed gate, and then five begin one. Where the gate is open, the fresh state is there.
+/// Two calls read an empty disk, and seven begin an area, the last two of which open its gate; three read a
+/// disk of which more stands behind a closed gate, and then five begin one. Where the gate is open, the fresh
+/// state is there.
 const BEGINNINGS: [Row; 14] = [
     ((EMPTY, false, 1), (0, 0), Finds::Nothing),
     ((EMPTY, false, 3), (0xA5, 0), Finds::Nothing),
@@ -53,8 +54,8 @@ const CUTS: [Row; 4] = [
     ((LONGER, true, 5), (0, 0x37), Finds::Decided(1)),
 ];
 
-/// An area of the first version, with more bytes behind it, and nothing on the second disk, an earlier area, or a later one behind a
-/// closed gate.
+/// An area of the first version, with more bytes behind it, and nothing on the second disk, an earlier area,
+/// or a later one behind a closed gate.
 const ALONE: Pair = (&[OLD, SECOND, RECORD, STEP, END, b"more"], &[]);
 
 const EARLIER: Pair = (
@@ -67,8 +68,8 @@ const SHUT: Pair = (
     &[CLOSED, THIRD, RECORD, STEP, END],
 );
 
-/// Its own disk is read and cut by five calls, and the other one is read, and an area is begun, by nine, ten or eight. Whatever is
-/// left is opened with the same state.
+/// Its own disk is read and cut by five calls, and the other one is read, and an area is begun, by nine, ten
+/// or eight. Whatever is left is opened with the same state.
 const CARRYINGS: [Row; 13] = [
     ((ALONE, false, 1), (0, 0), Finds::Decided(1)),
     ((ALONE, false, 4), (0xA5, 1), Finds::Decided(1)),

@@ -1,6 +1,5 @@
 -- What a drill reports and writes, from the parts that it is made of.
-use Rattle.std.proofs.Common.{◌≡◌, ◌++◌, ℕ, List, sym, ap, ◌∙◌, subst, arith}
-use Rattle.std.specs.List.{flat_map}
+use Rattle.std.proofs.Common.{◌≡◌, ℕ, List, sym, subst, arith}
 use Rattle.op_types.specs.Ranges.{MembersInRange}
 use Rattle.op_outside.specs.Seen.{StreamSeen}
 use Rattle.op_runs.specs.declared.summary.Summary.{Summary}
@@ -8,9 +7,8 @@ use Rattle.op_gen.specs.Links.{Links}
 use Rattle.op_gen.specs.Scenarios.{members_of, links_of}
 use Rattle.op_gen.specs.declared.scenario.Scenario.{Scenario}
 use Rattle.op_gen.specs.declared.scenario.Scenario.TheVariants.{Quorum, Constrained, Chained}
-use Rattle.op_sched.specs.Text.{line_text}
 use Rattle.op_world.specs.Drills.{IsReportOfDrill}
-use Rattle.op_drill.specs.Drills.{IsTextOf, TextEnds, first_line, is_told, is_cut, has_no_memory}
+use Rattle.op_drill.specs.Drills.{TextEnds, is_told, is_cut, has_no_memory}
 use Rattle.op_status.specs.declared.status.Status.{Status}
 
 -- the members of a scenario are in range
@@ -33,15 +31,6 @@ pub report_of : (s : Scenario) (rounds : ℕ) (members : List ℕ) (links : Link
     → IsReportOfDrill members links rounds sum → IsReportOfDrill (members_of s) (links_of s) rounds sum
 report_of s rounds members links sum members_are links_are report =
     subst (λ (ms : List ℕ). IsReportOfDrill ms (links_of s) rounds sum) members_are (subst (λ (l : Links). IsReportOfDrill members l rounds sum) links_are report)
-
-pub text_of : (s : Scenario) (rounds : ℕ) (sum : Summary) (text first lines : List ℕ) → IsReportOfDrill (members_of s) (links_of s) rounds sum
-    → first ≡ first_line s rounds → lines ≡ flat_map line_text sum.lines → text ≡ first ++ lines → IsTextOf s rounds text
-text_of s rounds sum text first lines report first_is lines_are text_is =
-    record {
-      summary = sum;
-      report = report;
-      written = text_is ∙ ap (λ (t : List ℕ). t ++ lines) first_is ∙ ap (λ (t : List ℕ). first_line s rounds ++ t) lines_are;
-    }
 
 -- what ends so with one kind of text does with another, where each text of the one is of the other
 pub ends_as : {P Q : List ℕ → Type 0} (out0 out1 : StreamSeen) (s : Status) → ((t : List ℕ) → P t → Q t) → TextEnds P out0 out1 s → TextEnds Q out0 out1 s

@@ -16,8 +16,8 @@ use op_types::NoMemory;
 use op_world::World;
 use std::alloc::Global;
 
-/// Runs three lockstep rounds over all links among the scenario's members, then so many over the links that it leaves, and
-/// writes which ballots each member then knows. `WriteFault` comes where a write failed.
+/// Runs three lockstep rounds over all links among the scenario's members, then so many over the links that
+/// it leaves, and writes which ballots each member then knows. `WriteFault` comes where a write failed.
 pub fn drill_links<K: Sink>(alloc: Global, scenario: Scenario, rounds: u64, out: &mut K) -> Status
     ensures { DrillEnds scenario rounds
         (K.held out.old, K.fault_count out.old) (K.held out.new, K.fault_count out.new) result }

@@ -1,5 +1,5 @@
-//! The command `drill`: events that a seed draws are run and summed up; or a scenario of partial links is run in lockstep
-//! rounds, and the members tell their ballots.
+//! The command `drill`: events that a seed draws are run and summed up; or a scenario of partial links is run
+//! in lockstep rounds, and the members tell their ballots.
 #![tactic(auto)]
 
 mod drilling;

@@ -13,8 +13,8 @@ use op_types::NoMemory;
 use op_world::World;
 use std::alloc::Global;
 
-/// Runs so many events that a seed draws, and writes a summary of what they leave, nothing before the last is done.
-/// `WriteFault` comes where a write failed.
+/// Runs so many events that a seed draws, and writes a summary of what they leave, nothing before the last is
+/// done. `WriteFault` comes where a write failed.
 pub fn drill<K: Sink>(alloc: Global, seed: u64, events: u64, out: &mut K) -> Status
     requires few { events ≤ greatest_number }
     ensures { RandomDrillEnds seed events

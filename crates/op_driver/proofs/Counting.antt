@@ -1,10 +1,9 @@
 -- Inputs are counted: it is the same turn, happening and frame, no session ends, and one input less may come of each.
-use Rattle.std.proofs.Common.{◌≡◌, ◌<◌, ◌≤◌, ◌+◌, ◌∷◌, [], ℕ, Bool, List, length, map, drop, get_or, add-one, None, nat_lt, if◌then◌else◌, true, false, ◌∙◌, inl, inr, ap, refl, sym, subst, arith}
+use Rattle.std.proofs.Common.{◌≡◌, ◌<◌, ◌≤◌, ◌+◌, ◌∷◌, [], ℕ, Bool, List, length, map, drop, None, nat_lt, if◌then◌else◌, inl, inr, ap, refl, sym, subst, arith}
 use Rattle.std.proofs.lemmas.Bool.{cases_Bool}
-use Rattle.std.proofs.lemmas.List.{drop_all, length-append, length-map}
-use Rattle.std.proofs.Math.Seq.{drop-cons}
+use Rattle.std.proofs.lemmas.List.{length-append, length-map}
 use Rattle.op_types.specs.declared.log.Command.{Command}
-use Rattle.op_serving.specs.State.{Table, Loop, next, counted}
+use Rattle.op_serving.specs.State.{Table, Loop, counted}
 use Rattle.op_serving.specs.Inputs.{as_delivery, as_one, all_gathered, releases}
 use Rattle.op_serving.specs.Losses.{most_marks, last_count, mark_at, noted, marked, size, Stays}
 use Rattle.op_serving.specs.Counts.{most_inputs}
@@ -57,30 +56,6 @@ pub record Counts (rs : List Answer) (i : ℕ) (s t : Loop) : Type 0 where
   pub lost : t.lost ≡ s.lost
   pub grows : s.place.inputs ≤ t.place.inputs
   pub short : 0 < i → s.place.inputs ≤ last_count
-
-pub counts_none : (rs : List Answer) (s : Loop) → Counts rs 0 s s
-counts_none rs s = record { is = refl; lost = refl; grows = omega arith; short = λ h. absurd (omega (arith, h)) }
-
-counts_at : (rs : List Answer) (i : ℕ) (d : Answer) (t : Loop) → i < length rs → counting_all (drop i rs) t ≡ goes (get_or rs i d) (drop (i + 1) rs) t (is_lost (get_or rs i d))
-counts_at rs i d t h = ap (λ l. counting_all l t) (drop-cons rs i d h) ∙ ap (λ n. goes (get_or rs i d) (drop n rs) t (is_lost (get_or rs i d))) (sym (add-one i))
-
-pub counts_more : (rs : List Answer) (i : ℕ) (d : Answer) (s t u : Loop) → i < length rs → Counts rs i s t → is_lost (get_or rs i d) ≡ false → u ≡ counting (get_or rs i d) t → t.place.inputs ≤ last_count → Counts rs (i + 1) s u
-counts_more rs i d s t u h c kept is short =
-    let r : Answer = get_or rs i d in
-    let counted_up : u.place.inputs ≡ next t.place.inputs = ap (λ (x : Loop). x.place.inputs) is ∙ ap (λ b. (if b then counted (marked None t) else counted t).place.inputs) kept in
-    record {
-      is = c.is ∙ counts_at rs i d t h ∙ ap (goes r (drop (i + 1) rs) t) kept ∙ ap (counting_all (drop (i + 1) rs)) (sym is);
-      lost = ap (λ (x : Loop). x.lost) is ∙ ap (λ b. (if b then counted (marked None t) else counted t).lost) kept ∙ c.lost;
-      grows = omega (arith, c.grows, counted_up, short);
-      short = λ some. omega (arith, c.grows, short);
-    }
-
--- all were, or one was lost
-pub counts_all : (rs : List Answer) (i : ℕ) (s t : Loop) → length rs ≤ i → Counts rs i s t → t ≡ counting_all rs s
-counts_all rs i s t h c = sym (c.is ∙ ap (λ l. counting_all l t) (drop_all i rs h))
-
-pub counts_lost : (rs : List Answer) (i : ℕ) (d : Answer) (s t u : Loop) → i < length rs → Counts rs i s t → is_lost (get_or rs i d) ≡ true → u ≡ counting (get_or rs i d) t → u ≡ counting_all rs s
-counts_lost rs i d s t u h c lost is = is ∙ sym (c.is ∙ counts_at rs i d t h ∙ ap (goes (get_or rs i d) (drop (i + 1) rs) t) lost)
 
 -- ---- what was gathered is let go
 

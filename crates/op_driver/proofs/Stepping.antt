@@ -80,10 +80,6 @@ module _ {K : Type 0} {stores : Stores K} where
 
 -- ---- one thing behind the other
 
--- deeds told apart otherwise
-pub split_deeds : (before xs ys : List Deed) → before ++ (xs ++ ys) ≡ (before ++ xs) ++ ys
-split_deeds before xs ys = sym (append_assoc before xs ys)
-
 module _ {K : Type 0} where
   -- what is known behind deeds was known between them
   pub knew : (m e : Served K) (xs ys : List Deed) {l : Luck} → Grew m.loop e.loop → Knows l (with_deeds (xs ++ ys) e) → Knows l (with_deeds xs m)
@@ -91,34 +87,6 @@ module _ {K : Type 0} where
     marks = foretold g k.marks;
     rest = kept ys ++ k.rest;
     fates = k.fates ∙ ap (λ r. r ++ k.rest) (kept_both xs ys) ∙ append_assoc (kept xs) (kept ys) k.rest;
-  }
-
-  pub known : (e : Served K) {l : Luck} (before xs ys : List Deed) → Knows l (with_deeds (before ++ (xs ++ ys)) e) → Knows l (with_deeds ((before ++ xs) ++ ys) e)
-  known e {l} before xs ys k = subst (λ x. Knows l (with_deeds x e)) (split_deeds before xs ys) k
-
--- the node is untouched
-pub record Untouched {K : Type 0} (d e : Served K) : Type 0 where
-  pub node : e.node ≡ d.node
-  pub core : e.core ≡ d.core
-
-module _ {K : Type 0} where
-  -- where the loop alone changed
-  pub untouched : {d e : Served K} {s : Loop} → e ≡ record d { loop = s } → Untouched d e
-  untouched is = record { node = ap (λ (x : Served K). x.node) is; core = ap (λ (x : Served K). x.core) is }
-
-module _ {K : Type 0} {stores : Stores K} where
-  -- where the node was before, it is still at first
-  pub went_from : {d m e : Served K} {ds : List Deed} → Untouched d m → Went stores m ds e → Went stores d ds e
-  went_from {d} {m} {e} {ds} u a = record {
-    steps = subst (λ n. Stepped n ds e.node) u.node a.steps;
-    walks = subst (λ (k : K). Walks stores k ds e.core) u.core a.walks;
-  }
-
-  -- and where it was last, it is still
-  pub went_to : {d m e : Served K} {ds : List Deed} → Went stores d ds m → Untouched m e → Went stores d ds e
-  went_to {d} {m} {e} {ds} a u = record {
-    steps = subst (λ n. Stepped d.node ds n) (sym u.node) a.steps;
-    walks = subst (λ (k : K). Walks stores d.core ds k) (sym u.core) a.walks;
   }
 
 module _ {K : Type 0} {stores : Stores K} where

@@ -308,8 +308,8 @@ impl<K: Core> Driver<K> {
         self.sessions.release()
     }
 
-    /// Inputs together, and the Downs right behind them. Those behind one that found no memory are a group of their
-    /// own.
+    /// Inputs together, and the Downs right behind them. Those behind one that found no memory are a group of
+    /// their own.
     fn give_all(&mut self, mut ungiven: Ungiven)
         requires { 0 < length ungiven.inputs }
         ensures gives { GivesAll K.stores ungiven self.old self.new }
@@ -350,8 +350,8 @@ impl<K: Core> Driver<K> {
         ungiven.give(&mut self.core, &mut self.sessions);
     }
 
-    /// An input that was frames of these connections, and the Downs right behind it. What clients ask is asked
-    /// for at their connections.
+    /// An input that was frames of these connections, and the Downs right behind it. What clients ask is
+    /// asked for at their connections.
     fn give(&mut self, who: &[Conn], input: Input)
         requires { InputInRange input }
         ensures gives { Gives K.stores (λ l s. give l who.now input s) self.old self.new }
@@ -408,8 +408,8 @@ impl<K: Core> Driver<K> {
         self.sessions.has_gathered()
     }
 
-    /// Ends the sessions for which more bytes wait than may, and gives the Downs of those that are over, until none
-    /// is left.
+    /// Ends the sessions for which more bytes wait than may, and gives the Downs of those that are over,
+    /// until none is left.
     fn drain(&mut self)
         ensures drained { Drained K.stores self.old self.new }
         ensures stays { Stays self.old.loop self.new.loop }

@@ -5,8 +5,8 @@ use std::alloc::{AllocError, Global};
 use std::env::Args;
 use std::io::{self, ErrorKind};
 
-/// The words after the program's name, from the process's arguments. Where these aren't all text there are none, which is no
-/// command; `AllocError` is want of memory, here or where the arguments were read.
+/// The words after the program's name, from the process's arguments. Where these aren't all text there are
+/// none, which is no command; `AllocError` is want of memory, here or where the arguments were read.
 pub fn words(alloc: Global, given: io::Result<Args>) -> Result<Vec<String>, AllocError>
     ensures all { IfOk given (λ args. IfOk result (λ words. words.items ≡ drop 1 (into_iter_items args))) }
     ensures none { IfErr given (λ _. IfOk result (λ words. words.items ≡ [])) }

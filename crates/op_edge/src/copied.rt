@@ -1,4 +1,5 @@
-//! One of the two copies of an area, which a mirror takes as failed for good once a call of it failed: over starts, too.
+//! One of the two copies of an area, which a mirror takes as failed for good once a call of it failed: over
+//! starts, too.
 
 use crate::notes::{is_noted, note};
 use std::alloc::Global;
@@ -29,8 +30,8 @@ impl Copied {
         }
     }
 
-    /// It fails where this copy, at this path, has failed, in this process or, as a note says, before. A first copy that isn't there
-    /// while its partner is has, too: its disk was emptied, or is away.
+    /// It fails where this copy, at this path, has failed, in this process or, as a note says, before. A
+    /// first copy that isn't there while its partner is has, too: its disk was emptied, or is away.
     pub(crate) fn lives<R: Files<File = File> + Alloc<A = Global>>(
         &mut self,
         rt: &R,
@@ -51,9 +52,10 @@ impl Copied {
         Ok(())
     }
 
-    /// A call of this copy, at this path, failed: that is noted, and from now on each call fails. Not so where there is no partner,
-    /// since the node isn't mirrored; where the partner has failed before, since one of the two has to be trusted at the next start;
-    /// and where another process has both files. It answers whether it was noted.
+    /// A call of this copy, at this path, failed: that is noted, and from now on each call fails. Not so
+    /// where there is no partner, since the node isn't mirrored; where the partner has failed before, since
+    /// one of the two has to be trusted at the next start; and where another process has both files. It
+    /// answers whether it was noted.
     pub(crate) fn fails<R: Files<File = File> + Alloc<A = Global>>(
         &mut self,
         rt: &R,

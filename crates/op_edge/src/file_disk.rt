@@ -17,9 +17,10 @@ use std::time::Clock;
 
 /// A file as a disk. It is opened at the first call. It tells nothing of its content.
 ///
-/// The file is locked (`flock`) when it is opened, before anything is read or written, until the disk is dropped or its process
-/// has ended, in whatever way. While another disk has it, of this process or of another one, each call fails, and nothing is
-/// changed. The lock keeps no program away that doesn't ask for one.
+/// The file is locked (`flock`) when it is opened, before anything is read or written, until the disk is
+/// dropped or its process has ended, in whatever way. While another disk has it, of this process or of
+/// another one, each call fails, and nothing is changed. The lock keeps no program away that doesn't ask for
+/// one.
 ///
 /// After a sync that failed every call fails: what was written before may be gone.
 #[derive(Drop)]
@@ -49,12 +50,13 @@ impl<R: Files<File = File> + Clock + Eprint + Alloc<A = Global> + Drop> FileDisk
         }
     }
 
-    /// The file at this path, the first copy of an area whose second one is at the other path, and made where there is neither.
-    /// Nothing is opened yet.
+    /// The file at this path, the first copy of an area whose second one is at the other path, and made where
+    /// there is neither. Nothing is opened yet.
     ///
-    /// Once a call of it fails, while that other file is there, each call fails, over starts too: an empty file `NAME.failed` beside
-    /// this one, and beside its partner, says so. So does each call where it isn't there and its partner is. But of two copies that
-    /// both fail the one that failed last is trusted again at the next start.
+    /// Once a call of it fails, while that other file is there, each call fails, over starts too: an empty
+    /// file `NAME.failed` beside this one, and beside its partner, says so. So does each call where it isn't
+    /// there and its partner is. But of two copies that both fail the one that failed last is trusted again
+    /// at the next start.
     pub fn first_copy(rt: R, path: PathBuf, second: PathBuf) -> Self
         ensures { (⟦<FileDisk<R> as Disk>⟧.state result).faults ≡ 0 }
     {
@@ -64,8 +66,8 @@ impl<R: Files<File = File> + Clock + Eprint + Alloc<A = Global> + Drop> FileDisk
         }
     }
 
-    /// The file at this path, the second copy of an area whose first one is at the other path, in the same way. It is made where there
-    /// is none, also where its partner is there.
+    /// The file at this path, the second copy of an area whose first one is at the other path, in the same
+    /// way. It is made where there is none, also where its partner is there.
     pub fn second_copy(rt: R, path: PathBuf, first: PathBuf) -> Self
         ensures { (⟦<FileDisk<R> as Disk>⟧.state result).faults ≡ 0 }
     {

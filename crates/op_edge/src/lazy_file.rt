@@ -40,7 +40,8 @@ pub(crate) struct LazyFile<R: Files<File = File> + Clock + Eprint + Alloc<A = Gl
     file: Option<File>,
     /// Whether its length may have changed since the last sync.
     resized: bool,
-    /// Whether a sync failed. The system may then have dropped what was written, and no later sync tells of it.
+    /// Whether a sync failed. The system may then have dropped what was written, and no later sync tells of
+    /// it.
     lost: bool,
 }
 
@@ -77,8 +78,8 @@ impl<R: Files<File = File> + Clock + Eprint + Alloc<A = Global> + Drop> LazyFile
         self.log.tell(&self.rt, format_args!("{name}: {what}"));
     }
 
-    /// Notes how a call ended: it is told that calls fail, and that they are answered again; and a copy of which one fails has failed
-    /// for good.
+    /// Notes how a call ended: it is told that calls fail, and that they are answered again; and a copy of
+    /// which one fails has failed for good.
     pub(crate) fn note(&mut self, call: &str, error: Option<&io::Error>) {
         let Some(error) = error else {
             if self.is_failing {
@@ -112,8 +113,8 @@ impl<R: Files<File = File> + Clock + Eprint + Alloc<A = Global> + Drop> LazyFile
         self.file.as_ref().ok_or(ErrorKind::NotFound.into())
     }
 
-    /// Opens the file, and locks it before anything else. Its name is made last too, so that a crash leaves a file that was
-    /// synced.
+    /// Opens the file, and locks it before anything else. Its name is made last too, so that a crash leaves a
+    /// file that was synced.
     fn open(&self) -> io::Result<File> {
         let mut how = OpenOptions::new();
         how.read(true)
@@ -125,8 +126,8 @@ impl<R: Files<File = File> + Clock + Eprint + Alloc<A = Global> + Drop> LazyFile
         Ok(file)
     }
 
-    /// Syncs the folder that holds the file, which isn't the link's where the path is a symbolic link. Memory is taken for a link
-    /// alone.
+    /// Syncs the folder that holds the file, which isn't the link's where the path is a symbolic link. Memory
+    /// is taken for a link alone.
     fn sync_folder(&self) -> io::Result<()> {
         let path = self.path.as_path();
         if !fs::symlink_metadata(&self.rt, path)?.is_symlink() {
@@ -163,7 +164,8 @@ impl<R: Files<File = File> + Clock + Eprint + Alloc<A = Global> + Drop> LazyFile
         self.opened()?.read_exact_at(buf, at)
     }
 
-    /// Writes these bytes from byte offset `at` on. It fails where that is past the length, or their end past 2^62.
+    /// Writes these bytes from byte offset `at` on. It fails where that is past the length, or their end past
+    /// 2^62.
     pub(crate) fn write_at(&mut self, at: u64, bytes: &[u8]) -> io::Result<()>
         ensures { OnOk result (at + length bytes.now ≤ disk_end) }
     {
@@ -184,8 +186,8 @@ impl<R: Files<File = File> + Clock + Eprint + Alloc<A = Global> + Drop> LazyFile
         self.opened()?.set_len(len)
     }
 
-    /// Makes all that was written last. A sync of the bytes is enough where the length hasn't changed since the last one: the
-    /// device then has all else that a read needs, and the file's times are of no use here.
+    /// Makes all that was written last. A sync of the bytes is enough where the length hasn't changed since
+    /// the last one: the device then has all else that a read needs, and the file's times are of no use here.
     pub(crate) fn sync(&mut self) -> io::Result<()> {
         let resized = self.resized;
         let start = self.log.millis(&self.rt);

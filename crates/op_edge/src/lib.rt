@@ -1,5 +1,5 @@
-//! The real things outside the program: streams, files, sockets, the clock and child programs. Bytes are handed on as they
-//! are, and failures are counted.
+//! The real things outside the program: streams, files, sockets, the clock and child programs. Bytes are
+//! handed on as they are, and failures are counted.
 #![tactic(auto)]
 
 mod arguments;

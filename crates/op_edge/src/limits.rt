@@ -11,7 +11,8 @@ const OTHER_FILES: u64 = 128;
 /// The fewest clients that may be connected at a time, however few files there are.
 const FEWEST_CLIENTS: u64 = 8;
 
-/// How many connections are kept, and for how long. No contract speaks of them: each connection may end at any time.
+/// How many connections are kept, and for how long. No contract speaks of them: each connection may end at
+/// any time.
 #[derive(Clone, Copy)]
 pub struct Limits {
     /// How many clients may be connected at a time.
@@ -21,8 +22,9 @@ pub struct Limits {
 }
 
 impl Limits {
-    /// What the environment says: by `OMNI_MOST_CLIENTS` how many clients, and by `OMNI_IDLE_S` for how many seconds. Where it doesn't,
-    /// as many as the process may have files, but 128, which are for the others, and for ever.
+    /// What the environment says: by `OMNI_MOST_CLIENTS` how many clients, and by `OMNI_IDLE_S` for how many
+    /// seconds. Where it doesn't, as many as the process may have files, but 128, which are for the others,
+    /// and for ever.
     pub fn of_process<R: Env + Alloc>(rt: &R) -> Limits {
         let limits = Limits::of_files();
         Limits {

@@ -7,7 +7,8 @@ use std::fmt::Display;
 use std::rt::Env;
 use std::time::Clock;
 
-/// Lines on standard error that tell what happens, each with its moment, where they are asked for. No contract speaks of them.
+/// Lines on standard error that tell what happens, each with its moment, where they are asked for. No
+/// contract speaks of them.
 #[derive(Clone, Copy)]
 pub struct Log {
     is_on: bool,

@@ -10,10 +10,11 @@ use std::{net, time};
 
 /// Sockets. They tell none of their calls.
 ///
-/// A connection has ended where the other end closed it; where a dial has no answer for 1 s, or written bytes haven't moved for 2 s;
-/// where nobody is at the other end any more, which is asked after a minute without a byte; and where its limits don't let it stay:
-/// a client more than these say, or one that has said nothing for so long. That is told until it is closed here. A connection that
-/// was dialled tells by `Writable` that its dial has an answer: it is open, or it was refused, and then it ends too.
+/// A connection has ended where the other end closed it; where a dial has no answer for 1 s, or written bytes
+/// haven't moved for 2 s; where nobody is at the other end any more, which is asked after a minute without a
+/// byte; and where its limits don't let it stay: a client more than these say, or one that has said nothing
+/// for so long. That is told until it is closed here. A connection that was dialled tells by `Writable` that
+/// its dial has an answer: it is open, or it was refused, and then it ends too.
 #[derive(Drop)]
 pub struct MioNet<R: net::Net + time::Clock + Eprint + Alloc<A = Global> + Drop, C: Clock + Drop> {
     sockets: Sockets<R, C>,

@@ -1,4 +1,5 @@
-//! Notes that a copy of a mirror failed: an empty file `NAME.failed` beside the copy NAME, and beside its partner.
+//! Notes that a copy of a mirror failed: an empty file `NAME.failed` beside the copy NAME, and beside its
+//! partner.
 
 use crate::folders::sync_folder_of;
 use std::alloc::Global;

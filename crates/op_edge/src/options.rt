@@ -22,8 +22,8 @@ const ASKED_TIMES: u32 = 3;
 /// The bytes of an option's value, an `unsigned int` of C.
 const VALUE_BYTES: usize = 4;
 
-/// Has a connection send each piece at once, and end where written bytes go without an acknowledgement, or where nobody is at the
-/// other end any more.
+/// Has a connection send each piece at once, and end where written bytes go without an acknowledgement, or
+/// where nobody is at the other end any more.
 pub(crate) fn set_options(stream: &TcpStream) -> io::Result<()> {
     stream.set_nodelay(true)?;
     let fd = stream.as_raw_fd();

@@ -42,8 +42,8 @@ impl Whose {
     }
 }
 
-/// A connection, and what the system said of it. It says a thing once, at a change: so each is kept until a read or a write
-/// finds it otherwise.
+/// A connection, and what the system said of it. It says a thing once, at a change: so each is kept until a
+/// read or a write finds it otherwise.
 #[derive(Drop)]
 pub(crate) struct Peer {
     /// None once it is closed.
@@ -60,12 +60,14 @@ pub(crate) struct Peer {
     ended: bool,
     /// Whether it was dialled, and has had room since.
     is_open: bool,
-    /// Where it waits for room: when it has ended unless there is room before, in milliseconds of the net's clock.
+    /// Where it waits for room: when it has ended unless there is room before, in milliseconds of the net's
+    /// clock.
     pub(crate) deadline: Option<u64>,
 }
 
 impl Peer {
-    /// A connection with this address, at this time. One that was dialled waits for room until the deadline, and is open then.
+    /// A connection with this address, at this time. One that was dialled waits for room until the deadline,
+    /// and is open then.
     pub(crate) fn new(
         stream: TcpStream,
         whose: Whose,
@@ -115,8 +117,8 @@ impl Peer {
         }
     }
 
-    /// Notes the time, in milliseconds of the net's clock. A client may say nothing for `idle` of them, if that has an end, and who
-    /// has said nothing yet for `newcomers`.
+    /// Notes the time, in milliseconds of the net's clock. A client may say nothing for `idle` of them, if
+    /// that has an end, and who has said nothing yet for `newcomers`.
     pub(crate) fn note_time(&mut self, now: u64, idle: Option<u64>, newcomers: Option<u64>) {
         let most = match self.whose {
             Whose::Newcomers => newcomers,
@@ -199,8 +201,8 @@ impl Peer {
         got
     }
 
-    /// Writes what there is room for. Where there is none, it has ended unless there is room before `deadline`, or the deadline
-    /// that stands.
+    /// Writes what there is room for. Where there is none, it has ended unless there is room before
+    /// `deadline`, or the deadline that stands.
     pub(crate) fn write(&mut self, piece: &[u8], deadline: u64) -> Took
         requires { 0 < length piece.now }
         ensures { TookWithin (length piece.now) (Ok result) }

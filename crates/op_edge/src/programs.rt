@@ -45,9 +45,10 @@ const KILLED: i32 = 128;
 /// The file of a node's folder that says whose it is.
 pub const IDENTITY_FILE: &str = "omni.id";
 
-/// A program that is run as `PROGRAM node ID`, in the folder `nID` of the current folder, which is made where it is absent: then it is
-/// told whose it is, by its file `omni.id`, where the settings that a start gives name their cluster. Its standard input is these
-/// settings, and its standard output goes nowhere. Calls are not told.
+/// A program that is run as `PROGRAM node ID`, in the folder `nID` of the current folder, which is made where
+/// it is absent: then it is told whose it is, by its file `omni.id`, where the settings that a start gives
+/// name their cluster. Its standard input is these settings, and its standard output goes nowhere. Calls are
+/// not told.
 #[derive(Drop)]
 pub struct Programs<R: Processes + Files + Clock + Eprint + Alloc<A = Global> + Drop> {
     rt: R,

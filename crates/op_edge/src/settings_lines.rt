@@ -1,4 +1,5 @@
-//! What is told of settings: which key or row of them it is that isn't taken, where the status's line says less.
+//! What is told of settings: which key or row of them it is that isn't taken, where the status's line says
+//! less.
 
 use crate::log::Log;
 use op_setup::{KEYS, addr};
@@ -7,8 +8,9 @@ use std::alloc::{AllocError, Global};
 use std::time::Clock;
 use toml::{Table, Value};
 
-/// Tells what is odd in this text of settings: that it is no TOML, keys that no setting has, rows of `[peers]` that are no peer's,
-/// nodes with one address, members and observers that are no peers, and observers that are members, too.
+/// Tells what is odd in this text of settings: that it is no TOML, keys that no setting has, rows of
+/// `[peers]` that are no peer's, nodes with one address, members and observers that are no peers, and
+/// observers that are members, too.
 pub(crate) fn tell_settings<R: Clock + Eprint + Alloc<A = Global>>(
     rt: &R,
     log: Log,

@@ -27,15 +27,16 @@ const MOST_ACCEPTED: u32 = 16;
 /// How long after an error of the listener it is tried again, in milliseconds.
 const ACCEPT_AGAIN_MILLIS: u64 = 100;
 
-/// How many connections more than clients may be connected are accepted, of which it isn't known yet whose they are: so servers find
-/// room.
+/// How many connections more than clients may be connected are accepted, of which it isn't known yet whose
+/// they are: so servers find room.
 const NEWCOMERS: u64 = 64;
 
 /// How long one of these may say nothing while there are more clients than may be connected, in milliseconds.
 const NEWCOMERS_MILLIS: u64 = 10_000;
 
-/// A listener and connections. A connection's number is its key in the table: no two that are open share it. That of one which is
-/// closed comes again behind the next wait, so that what the last one told is never taken for news of another.
+/// A listener and connections. A connection's number is its key in the table: no two that are open share it.
+/// That of one which is closed comes again behind the next wait, so that what the last one told is never
+/// taken for news of another.
 #[derive(Drop)]
 pub(crate) struct Sockets<
     R: Net + time::Clock + Eprint + Alloc<A = Global> + Drop,
@@ -50,8 +51,8 @@ pub(crate) struct Sockets<
     listener: Option<TcpListener>,
     /// Whether connections may wait at the listener.
     acceptable: bool,
-    /// When they may again, after an error of the listener, in milliseconds of the clock: the system then tells of none that
-    /// waits already.
+    /// When they may again, after an error of the listener, in milliseconds of the clock: the system then
+    /// tells of none that waits already.
     accept_at: Option<u64>,
     peers: Slab<Peer>,
     /// How many of them came from elsewhere and aren't known to be a server's.
@@ -116,8 +117,9 @@ impl<R: Net + time::Clock + Eprint + Alloc<A = Global> + Drop, C: Clock + Drop> 
         Ok(())
     }
 
-    /// Begins a connection to this address. There is none where the system refuses it at once, as where no way leads there, and
-    /// where it can't be kept, as for want of memory. It fails where the system gave no means to wait for sockets.
+    /// Begins a connection to this address. There is none where the system refuses it at once, as where no
+    /// way leads there, and where it can't be kept, as for want of memory. It fails where the system gave no
+    /// means to wait for sockets.
     pub(crate) fn dial(&mut self, addr: &Addr) -> io::Result<Option<Conn>> {
         if self.poller.is_none() {
             return Err(ErrorKind::Other.into());
@@ -149,7 +151,8 @@ impl<R: Net + time::Clock + Eprint + Alloc<A = Global> + Drop, C: Clock + Drop> 
         Ok(key as Conn)
     }
 
-    /// Waits for happenings, for `ms` milliseconds at most, and gives 64 of them at most. The others are given later.
+    /// Waits for happenings, for `ms` milliseconds at most, and gives 64 of them at most. The others are
+    /// given later.
     pub(crate) fn wait(&mut self, ms: u64, given: &mut Vec<Happening>) -> io::Result<()>
         requires { vec_len given.old ≤ most_happenings }
         ensures { vec_len given.new ≤ most_happenings }
@@ -198,8 +201,8 @@ impl<R: Net + time::Clock + Eprint + Alloc<A = Global> + Drop, C: Clock + Drop> 
         });
     }
 
-    /// How long to wait, in milliseconds: not where there is something to tell, and not past a deadline or the listener's next
-    /// try.
+    /// How long to wait, in milliseconds: not where there is something to tell, and not past a deadline or
+    /// the listener's next try.
     fn patience(&mut self, ms: u64) -> u64 {
         if self.acceptable || self.peers.iter().any(|(_, peer)| peer.has_news()) {
             return 0;
@@ -225,8 +228,9 @@ impl<R: Net + time::Clock + Eprint + Alloc<A = Global> + Drop, C: Clock + Drop> 
         }
     }
 
-    /// The next connection at the listener. One that has ended already, or that can't be kept, is closed. Any other error
-    /// passes, as where files have run out: none is there then, and the listener is tried again after a while.
+    /// The next connection at the listener. One that has ended already, or that can't be kept, is closed. Any
+    /// other error passes, as where files have run out: none is there then, and the listener is tried again
+    /// after a while.
     fn accept_one(&mut self) -> Option<Conn> {
         let Some(listener) = &self.listener else {
             self.acceptable = false;
@@ -322,7 +326,8 @@ impl<R: Net + time::Clock + Eprint + Alloc<A = Global> + Drop, C: Clock + Drop> 
         }
     }
 
-    /// Notes what a connection said. One of more clients than may be connected is ended: then it answers false.
+    /// Notes what a connection said. One of more clients than may be connected is ended: then it answers
+    /// false.
     fn hears(&mut self, conn: Conn, bytes: &[u8]) -> bool {
         let now = self.clock.millis();
         let most = self.limits.most_clients;

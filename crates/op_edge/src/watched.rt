@@ -55,7 +55,8 @@ impl<R: Clock + Eprint + Alloc<A = Global> + Drop, I: Read + Drop> Read for Watc
     }
 }
 
-/// Keeps what was read, and looks at all of it at its end. Where there is no memory for it, it isn't looked at.
+/// Keeps what was read, and looks at all of it at its end. Where there is no memory for it, it isn't looked
+/// at.
 fn watch<R: Clock + Eprint + Alloc<A = Global>>(
     rt: &R,
     log: Log,

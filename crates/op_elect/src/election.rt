@@ -7,8 +7,8 @@ use op_quorum::is_majority;
 use op_types::{Ballot, ElectionState, GREATEST_NUMBER, Heard, Pid, Verdict};
 use std::marker::Model;
 
-/// A server that takes part in elections: the ballot that it stands for, the leader's as far as it knows, where elections
-/// begin, and whether it heard a majority in its last round.
+/// A server that takes part in elections: the ballot that it stands for, the leader's as far as it knows,
+/// where elections begin, and whether it heard a majority in its last round.
 #[derive(Clone, Copy)]
 pub struct Election {
     me: Pid,
@@ -44,7 +44,8 @@ impl Election {
         }
     }
 
-    /// Ends a round with the replies that came in it, one of each other member that replied: itself and these are counted.
+    /// Ends a round with the replies that came in it, one of each other member that replied: itself and these
+    /// are counted.
     pub fn end(&mut self, replies: &[Heard]) -> Verdict
         ensures { Elected self.old replies.now result self.new }
     {

@@ -5,7 +5,8 @@ ghost use Rattle.op_types.specs.declared.verdict.Verdict.{Verdict};
 ghost use Rattle.op_protocol.specs.Election.{Candidate, Elected, round_end};
 ghost use Rattle.op_elect.specs.Elections.{Call, Elections, RiseAbove};
 
-/// Over any list of rounds that end and of floors that are raised, the ballots that a server elects strictly rise.
+/// Over any list of rounds that end and of floors that are raised, the ballots that a server elects strictly
+/// rise.
 pub fn elected_ballots_rise()
     ensures { (c d : Candidate) (calls : List Call) (ballots : List Ballot) →
         Elections c calls ballots d → RiseAbove c.leader ballots }

@@ -11,7 +11,7 @@ use Rattle.std.specs.Set.{is_member}
 use Rattle.op_types.specs.Ranges.{AreRising, IsMember, IsPid, MembersInRange}
 use Rattle.op_runs.specs.World.{Kind, Votes, Observes, World, Node, Happening, Deed, Opens, node_ids, node_at, insert_node, first_node, first_observer, first_world, world_at_node, world_at_observer, world_after, run_of, done_event}
 use Rattle.op_runs.specs.Possible.{SparesInRange, ObserversInRange, HappeningsInRange, WhatInRange, kind_if, kind_in, proposals_in, server_ids}
-use Rattle.op_runs.specs.Schedules.{Seated, beginning, begun}
+use Rattle.op_runs.specs.Schedules.{Seated, beginning, observers_begun}
 use Rattle.op_bounds.specs.Laws.{HappeningInRange}
 use Rattle.op_bounds.proofs.Known.{rising_ids}
 use Rattle.op_executions.specs.Servers.{first_as}
@@ -24,27 +24,27 @@ use Rattle.op_executions.proofs.Servers.{pid_as, pid_first}
 
 -- ---- what happens
 
-none_begun : (observers : List ℕ) → proposals_in (begun observers) ≡ 0
+none_begun : (observers : List ℕ) → proposals_in (observers_begun observers) ≡ 0
 none_begun [] = refl
 none_begun (q ∷ observers) = omega (arith, none_begun observers)
 
-begun_fit : (observers : List ℕ) → All IsPid observers → All (λ h. WhatInRange h.event.what) (begun observers)
+begun_fit : (observers : List ℕ) → All IsPid observers → All (λ h. WhatInRange h.event.what) (observers_begun observers)
 begun_fit [] each = All-nil (λ (h : Happening). WhatInRange h.event.what)
 begun_fit (q ∷ observers) each =
-    All-cons (λ (h : Happening). WhatInRange h.event.what) (done_event (beginning q)) (begun observers) (All-head IsPid q observers each) (begun_fit observers (All-tail IsPid q observers each))
+    All-cons (λ (h : Happening). WhatInRange h.event.what) (done_event (beginning q)) (observers_begun observers) (All-head IsPid q observers each) (begun_fit observers (All-tail IsPid q observers each))
 
 -- the beginnings of observers are in range, and propose nothing
-pub begun_in_range : (observers : List ℕ) → AreRising 0 observers → HappeningsInRange (begun observers)
+pub begun_in_range : (observers : List ℕ) → AreRising 0 observers → HappeningsInRange (observers_begun observers)
 begun_in_range observers r = record { few = omega (arith, none_begun observers); each = begun_fit observers (rising_ids 0 observers r) }
 
-pub begun_propose_none : (observers : List ℕ) → proposals_in (begun observers) ≡ 0
+pub begun_propose_none : (observers : List ℕ) → proposals_in (observers_begun observers) ≡ 0
 begun_propose_none observers = none_begun observers
 
 -- they name the observers alone
-pub begun_known : (Known : ℕ → Type 0) (observers : List ℕ) → All IsPid observers → All Known observers → All (HappeningInRange Known) (begun observers)
+pub begun_known : (Known : ℕ → Type 0) (observers : List ℕ) → All IsPid observers → All Known observers → All (HappeningInRange Known) (observers_begun observers)
 begun_known Known [] each known = All-nil (HappeningInRange Known)
 begun_known Known (q ∷ observers) each known =
-    All-cons (HappeningInRange Known) (done_event (beginning q)) (begun observers) (All-head IsPid q observers each, All-head Known q observers known)
+    All-cons (HappeningInRange Known) (done_event (beginning q)) (observers_begun observers) (All-head IsPid q observers each, All-head Known q observers known)
     (begun_known Known observers (All-tail IsPid q observers each) (All-tail Known q observers known))
 
 -- ---- one begins
@@ -147,7 +147,7 @@ module _ (members all : List ℕ) where
       (All-map (λ (s : Seated). s.node.pid ≡ q → ⊥) (first_seated members all) ids
       (All-weaker (λ (n : ℕ). n ≡ q → ⊥) (λ (n : ℕ). (first_seated members all n).node.pid ≡ q → ⊥) (λ n d same. d (sym (pid_first all members n) ∙ same)) ids differ))
 
-  begin_on : (more ids : List ℕ) (low : ℕ) (w : World) → AreRising low more → AreRising 0 ids → ((q : ℕ) → IsMember more q → IsMember all q) → ((q : ℕ) → IsMember more q → All (λ n. n ≡ q → ⊥) ids) → HaveBegun ids w → HaveBegun (node_ids ids more) (run_of w (begun more))
+  begin_on : (more ids : List ℕ) (low : ℕ) (w : World) → AreRising low more → AreRising 0 ids → ((q : ℕ) → IsMember more q → IsMember all q) → ((q : ℕ) → IsMember more q → All (λ n. n ≡ q → ⊥) ids) → HaveBegun ids w → HaveBegun (node_ids ids more) (run_of w (observers_begun more))
   begin_on [] ids low w rise r among fresh have = have
   begin_on (q ∷ more) ids low w rise r among fresh have =
       let here : IsMember (q ∷ more) q = or_left (eqb q q) (is_member nat_eq more q) (eq-eqb q q refl) in
@@ -165,7 +165,7 @@ module _ (members all : List ℕ) where
         lines = have.lines;
       } in
       let first = rise.0 in
-      subst (λ (u : World). HaveBegun (node_ids (insert_key nat_cmp ids q) more) (run_of u (begun more))) (sym (begins w q no_node none))
+      subst (λ (u : World). HaveBegun (node_ids (insert_key nat_cmp ids q) more) (run_of u (observers_begun more))) (sym (begins w q no_node none))
       (begin_on more (insert_key nat_cmp ids q) q v rise.2 (put_rising 0 ids q r (omega (arith, first)) rise.1) (λ p h. among p (or_right (eqb p q) (is_member nat_eq more p) h))
       (λ p h.
       let over : q < p = all_at (λ (n : ℕ). q < n) more p (rising_over q more rise.2) h in
@@ -182,7 +182,7 @@ module _ (members spares observers : List ℕ) (m : MembersInRange members) (s :
       by true none = absurd (none refl)
       by false none = refl
 
-  pub have_begun : HaveBegun members observers (server_ids members spares observers) (run_of (first_world members spares) (begun observers))
+  pub have_begun : HaveBegun members observers (server_ids members spares observers) (run_of (first_world members spares) (observers_begun observers))
   have_begun =
       let nodes : List ℕ = node_ids members spares in
       let vote : All (λ q. kind_in observers q ≡ Votes) nodes = All-weaker (IsMember nodes) (λ (q : ℕ). kind_in observers q ≡ Votes) votes nodes (All-is_member nat_eq_equiv nodes) in

@@ -6,7 +6,7 @@ use Rattle.op_runs.specs.declared.events.What.{What}
 use Rattle.op_runs.specs.World.{World, Happening, done_event, node_ids}
 use Rattle.op_runs.specs.Run.{first_execution}
 use Rattle.op_runs.specs.Possible.{ObserversInRange, SparesInRange, WhatInRange, most_proposals, proposals_in, server_ids}
-use Rattle.op_runs.specs.Schedules.{beginning, begun}
+use Rattle.op_runs.specs.Schedules.{beginning, observers_begun}
 use Rattle.op_bounds.specs.Laws.{WhatNames}
 use Rattle.op_bounds.proofs.Known.{rising_ids}
 use Rattle.op_bounds.proofs.Owners.{observers_own_none}
@@ -30,10 +30,10 @@ pub no_observers : (members spares : List ℕ) → ObserversInRange members spar
 no_observers members spares = record { rising = tt; no_member = λ q h. absurd (cc); no_spare = λ q h. absurd (cc) }
 
 -- the beginnings name ids
-begun_names : (P : ℕ → Type 0) (observers : List ℕ) → All IsPid observers → All (λ h. WhatNames P IsPid h.event.what) (begun observers)
+begun_names : (P : ℕ → Type 0) (observers : List ℕ) → All IsPid observers → All (λ h. WhatNames P IsPid h.event.what) (observers_begun observers)
 begun_names P [] each = All-nil (λ (h : Happening). WhatNames P IsPid h.event.what)
 begun_names P (q ∷ observers) each =
-    All-cons (λ (h : Happening). WhatNames P IsPid h.event.what) (done_event (beginning q)) (begun observers) (All-head IsPid q observers each) (begun_names P observers (All-tail IsPid q observers each))
+    All-cons (λ (h : Happening). WhatNames P IsPid h.event.what) (done_event (beginning q)) (observers_begun observers) (All-head IsPid q observers each) (begun_names P observers (All-tail IsPid q observers each))
 
 -- these happenings are in range, and name servers alone
 pub record Fit (members spares observers : List ℕ) (hs : List Happening) : Type 0 where
@@ -43,31 +43,31 @@ pub record Fit (members spares observers : List ℕ) (hs : List Happening) : Typ
 
 module _ (members spares observers : List ℕ) (m : MembersInRange members) (sp : SparesInRange members spares) (o : ObserversInRange members spares observers) (hs : List Happening) (k : Fit members spares observers hs) where
   abbrev whole : List Happening
-  whole = begun observers ++ hs
+  whole = observers_begun observers ++ hs
 
   -- behind the beginnings they are in range too
-  pub behind_in_range : RunInRange members spares (begun observers ++ hs)
+  pub behind_in_range : RunInRange members spares (observers_begun observers ++ hs)
   behind_in_range =
       let first = begun_in_range observers o.rising in
-      let sum = proposals_more (begun observers) hs in
+      let sum = proposals_more (observers_begun observers) hs in
       let none = begun_propose_none observers in
       let small = k.few in
       record {
         first = m;
         others = sp;
-        happenings = record { few = omega (arith, sum, none, small); each = All-append (λ (h : Happening). WhatInRange h.event.what) (begun observers) hs first.each k.each };
+        happenings = record { few = omega (arith, sum, none, small); each = All-append (λ (h : Happening). WhatInRange h.event.what) (observers_begun observers) hs first.each k.each };
       }
 
   -- a stop-sign names nodes, and an opening an id
   names : All (λ h. WhatNames (IsMember (node_ids members spares)) IsPid h.event.what) whole
   names =
       let ids : List ℕ = node_ids members spares in
-      All-append (λ (h : Happening). WhatNames (IsMember ids) IsPid h.event.what) (begun observers) hs (begun_names (IsMember ids) observers (rising_ids 0 observers o.rising))
+      All-append (λ (h : Happening). WhatNames (IsMember ids) IsPid h.event.what) (observers_begun observers) hs (begun_names (IsMember ids) observers (rising_ids 0 observers o.rising))
       (All-weaker (λ (h : Happening). NamesServers members spares observers h.event.what) (λ (h : Happening). WhatNames (IsMember ids) IsPid h.event.what)
       (λ h. names_more (IsMember ids) (IsMember (server_ids members spares observers)) (IsMember ids) IsPid (λ q x. x) (servers_are_ids members spares observers m sp o) h.event.what) hs k.name)
 
   -- none of the observers owns a ballot then
-  pub behind_owns : NoneOwnsBallots (reached members spares (begun observers ++ hs)).world
+  pub behind_owns : NoneOwnsBallots (reached members spares (observers_begun observers ++ hs)).world
   behind_owns =
       let each : All (λ h. WhatInRange h.event.what) whole = (behind_in_range.happenings).each in
       subst (λ (w : World). NoneOwnsBallots w) (sym (world_of_run (first_execution members spares) whole)) (observers_own_none members spares m sp whole (λ i d there. (each i d there, names i d there)))

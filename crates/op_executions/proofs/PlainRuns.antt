@@ -12,7 +12,7 @@ use Rattle.op_runs.specs.declared.events.What.TheVariants as what
 use Rattle.op_runs.specs.World.{Kind, Votes, Observes, plan_as, first_observer, insert_node, world_with_as, world_opening_as, world_by_status_as, world_beginning, world_at_observer, world_observed, World, Node, NodeStatus, Up, Down, Failed, Sent, Fate, Done, Happening, Doing, Steps, Stops, Opens, Tells, Deed, node_ids, first_node, first_world, node_at, with_node, deed_of, delivery, world_at_node, world_with, world_after, run_of, done_event, all_done}
 use Rattle.op_runs.specs.Run.{Execution, execution_with, execution_of, first_execution, machine_showing_all, machine_proposing_by}
 use Rattle.op_runs.specs.Possible.{Named, named_ids, is_possible, is_possible_in, ArePossibleFrom}
-use Rattle.op_runs.specs.Schedules.{Nothing, DiskPlan, DiskPlans, Seated, seated_at, no_plan, no_plans, plans_with, awaiting, is_lost, is_awaited, CallsDisks, happening_of, MayEnd, happenings_of, BecomesAt, BecomesBy, Becomes, drops, plans_by, plans_after, RunsFrom, FailsFrom, beginnings, begun, started_world, TellsNoFault}
+use Rattle.op_runs.specs.Schedules.{Nothing, DiskPlan, DiskPlans, Seated, seated_at, no_plan, no_plans, plans_with, awaiting, is_lost, is_awaited, CallsDisks, happening_of, MayEnd, happenings_of, BecomesAt, BecomesBy, Becomes, drops, plans_by, plans_after, RunsFrom, FailsFrom, beginnings, observers_begun, started_world, TellsNoFault}
 use Rattle.op_laws.proofs.Reached.{world_of_run, execution_append}
 use Rattle.op_executions.specs.PlainRuns.{ArePlain, PlainRunsAreDone, PlainEventsCanBeDone, PlainRunsAreNotRefused, PlainRefusalsAreOne}
 use Rattle.op_executions.proofs.Deeds.{node_found}
@@ -271,10 +271,10 @@ plain_from mirrored nodes t plans (e ∷ events) hs p run =
 
 -- what a run has come to once its observers have begun
 abbrev started : List ℕ → List ℕ → List ℕ → Execution
-started members spares observers = execution_of (first_execution members spares) (begun observers)
+started members spares observers = execution_of (first_execution members spares) (observers_begun observers)
 
 started_is : (members spares observers : List ℕ) → (started members spares observers).world ≡ started_world members spares observers
-started_is members spares observers = world_of_run (first_execution members spares) (begun observers)
+started_is members spares observers = world_of_run (first_execution members spares) (observers_begun observers)
 
 pub plain_runs_are_done : PlainRunsAreDone
 plain_runs_are_done members spares observers mirrored events hs plain run =
@@ -282,10 +282,10 @@ plain_runs_are_done members spares observers mirrored events hs plain run =
     let t : Execution = started members spares observers in
     let is : started_world members spares observers ≡ t.world = sym (started_is members spares observers) in
     ap (λ (xs : List Happening). execution_of (first_execution members spares) xs) run.1
-    ∙ execution_append (first_execution members spares) (begun observers) run.0
+    ∙ execution_append (first_execution members spares) (observers_begun observers) run.0
     ∙ plain_from mirrored ids t no_plans events run.0 (subst (λ (w : World). PlainFrom w no_plans events) is (plain_first members spares observers events plain))
     (subst (λ (w : World). RunsFrom mirrored ids w no_plans events run.0) is run.2)
-    ∙ sym (execution_append (first_execution members spares) (begun observers) (all_done events))
+    ∙ sym (execution_append (first_execution members spares) (observers_begun observers) (all_done events))
 
 -- ---- each event done
 

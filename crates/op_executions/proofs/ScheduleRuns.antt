@@ -4,13 +4,13 @@ use Rattle.std.proofs.lemmas.List.{append-nil}
 use Rattle.op_runs.specs.declared.events.Event.{Event}
 use Rattle.op_runs.specs.World.{World, Happening, first_world, run_of}
 use Rattle.op_runs.specs.Possible.{is_possible_in, named_ids}
-use Rattle.op_runs.specs.Schedules.{DiskPlans, no_plans, Becomes, plans_after, RunsFrom, FailsFrom, begun, started_world, IsRunOf, IsFirstRefused}
+use Rattle.op_runs.specs.Schedules.{DiskPlans, no_plans, Becomes, plans_after, RunsFrom, FailsFrom, observers_begun, started_world, IsRunOf, IsFirstRefused}
 use Rattle.op_laws.proofs.Reached.{run_append}
 
 -- These events became these happenings behind the observers' beginnings, which came to this world, with what is planned for its
 -- servers' disks: what more events become from here on comes behind them.
 pub record ComesTo (members spares observers : List ℕ) (mirrored : Bool) (w : World) (plans : DiskPlans) (events : List Event) (hs : List Happening) : Type 0 where
-  pub world : w ≡ run_of (first_world members spares) (begun observers ++ hs)
+  pub world : w ≡ run_of (first_world members spares) (observers_begun observers ++ hs)
   pub runs : (more : List Event) (later : List Happening) → RunsFrom mirrored (named_ids members spares observers) w plans more later
       → RunsFrom mirrored (named_ids members spares observers) (started_world members spares observers) no_plans (events ++ more) (hs ++ later)
   pub fails : (more : List Event) (i : ℕ) → FailsFrom mirrored (named_ids members spares observers) w plans more i → IsFirstRefused members spares observers mirrored (events ++ more) (length events + i)
@@ -25,7 +25,7 @@ module _ (members spares observers : List ℕ) (mirrored : Bool) where
 
   pub comes_first : ComesTo members spares observers mirrored (started_world members spares observers) no_plans [] []
   comes_first = record {
-    world = ap (λ (hs : List Happening). run_of (first_world members spares) hs) (sym (append-nil (begun observers)));
+    world = ap (λ (hs : List Happening). run_of (first_world members spares) hs) (sym (append-nil (observers_begun observers)));
     runs = λ more later run. run;
     fails = λ more i bad. let whole : i ≡ 0 + i = omega arith in subst (λ (j : ℕ). Fails more j) whole bad;
   }
@@ -35,8 +35,8 @@ module _ (members spares observers : List ℕ) (mirrored : Bool) where
     pub comes_next : (e : Event) (now : List Happening) → is_possible_in (named_ids members spares observers) w e ≡ true → Becomes mirrored w plans e now
         → ComesTo members spares observers mirrored (run_of w now) (plans_after w plans e.what) (events ++ e ∷ []) (hs ++ now)
     comes_next e now can becomes = record {
-      world = ap (λ (x : World). run_of x now) c.world ∙ sym (run_append (first_world members spares) (begun observers ++ hs) now)
-          ∙ ap (λ (xs : List Happening). run_of (first_world members spares) xs) (append_assoc (begun observers) hs now);
+      world = ap (λ (x : World). run_of x now) c.world ∙ sym (run_append (first_world members spares) (observers_begun observers ++ hs) now)
+          ∙ ap (λ (xs : List Happening). run_of (first_world members spares) xs) (append_assoc (observers_begun observers) hs now);
       runs = λ more later run.
           subst (λ (xs : List Happening). Runs ((events ++ e ∷ []) ++ more) xs) (sym (append_assoc hs now later))
           (subst (λ (es : List Event). Runs es (hs ++ (now ++ later))) (sym (append_assoc events (e ∷ []) more))
@@ -48,7 +48,7 @@ module _ (members spares observers : List ℕ) (mirrored : Bool) where
     }
 
     -- no event more
-    pub comes_whole : IsRunOf members spares observers mirrored events (begun observers ++ hs)
+    pub comes_whole : IsRunOf members spares observers mirrored events (observers_begun observers ++ hs)
     comes_whole = (
       hs,
       refl,

@@ -1,7 +1,7 @@
 -- The server of an id, at its place among the servers, and the servers once another one stands there.
-use Rattle.std.proofs.Common.{◌≡◌, ℕ, Result, Ok, Err, zero, suc, Bool, true, false, eqb, nat_eq, ◌+◌, ◌<◌, ◌≤◌, List, [], ◌∷◌, ◌++◌, length, map, take, get_or, set, Some, All, refl, sym, ap, subst, ◌∙◌, arith, ⊎_elim}
+use Rattle.std.proofs.Common.{◌≡◌, ℕ, Result, Ok, Err, zero, suc, Bool, true, false, eqb, nat_eq, ◌+◌, ◌<◌, List, [], ◌∷◌, ◌++◌, length, map, take, get_or, set, Some, All, refl, sym, ap, subst, ◌∙◌, arith, ⊎_elim}
 use Rattle.std.proofs.lemmas.Bool.{cond_both, cond-true, cond-false, or_cases, eqb-true, eqb-false}
-use Rattle.std.proofs.lemmas.List.{map-append, take_more, take_all}
+use Rattle.std.proofs.lemmas.List.{map-append, take_more}
 use Rattle.std.proofs.lemmas.List.Elements.{All-nil, All-cons, All-head, All-tail, All-push}
 use Rattle.std.specs.Prelude.{IfOk, OnOk}
 use Rattle.std.specs.Set.{is_member}
@@ -13,7 +13,7 @@ use Rattle.op_runs.specs.Possible.{kind_if, kind_in}
 use Rattle.op_runs.specs.Schedules.{Seated}
 use Rattle.op_executions.specs.Servers.{Kind, ShowsNode, IsDoneAt, IsToldAt, first_as}
 use Rattle.op_executions.specs.declared.server.Done.{Done}
-use Rattle.op_executions.specs.Worlds.{ShowsSeated, ShowSeated, AreFirst, first_seated, place_of}
+use Rattle.op_executions.specs.Worlds.{ShowsSeated, ShowSeated, first_seated, place_of}
 use Rattle.op_executions.proofs.Seated.{pids_in, seat_in, with_seat}
 
 -- ---- a place
@@ -152,10 +152,6 @@ module _ {S F : Type 0} (K : Kind S F) where
     pub kept : All K.is_kept servers
     pub first : All K.is_first servers
 
-  pub have_none : (members observers ids : List ℕ) (servers : List S) → servers ≡ [] → HaveServers members observers ids servers 0
-  have_none members observers ids servers none =
-      subst (λ (ns : List S). HaveServers members observers ids ns 0) (sym none) (record { shown = tt; ids_are = refl; kept = All-nil K.is_kept; first = All-nil K.is_first })
-
   pub have_more : (members observers ids : List ℕ) (servers new : List S) (n : S) (k : ℕ) (observes : Bool) → HaveServers members observers ids servers k → k < length ids → new ≡ servers ++ n ∷ []
       → observes ≡ is_member nat_eq observers (get_or ids k 0) → ShowsNode K n (first_as (kind_if observes) members (get_or ids k 0)) → K.kind_of n ≡ kind_if observes → K.is_kept n → K.is_first n → HaveServers members observers ids new (k + 1)
   have_more members observers ids servers new n k observes had there is observes_is shows kind kept first =
@@ -175,12 +171,6 @@ module _ {S F : Type 0} (K : Kind S F) where
         kept = All-push K.is_kept servers n had.kept kept;
         first = All-push K.is_first servers n had.first first;
       })
-
-  -- all of them have
-  pub have_all : (members observers ids : List ℕ) (servers : List S) (k : ℕ) → HaveServers members observers ids servers k → length ids ≤ k → AreFirst K members ids observers servers
-  have_all members observers ids servers k had most =
-      let whole : take k ids ≡ ids = take_all k ids most in
-      record { shown = subst (λ (ms : List ℕ). ShowSeated K servers (map (first_seated members observers) ms)) whole had.shown; pids = had.ids_are ∙ whole; kept = had.kept; first = had.first }
 
   -- ---- what is told
 

@@ -1,12 +1,10 @@
 -- An id that is put at its place among others.
-use Rattle.std.proofs.Common.{◌≡◌, ◌<◌, ◌≤◌, ◌+◌, ℕ, zero, suc, Bool, cond, eqb, ltb, List, [], ◌∷◌, ◌++◌, length, take, get_or, insert, refl, sym, ap, subst, ◌∙◌, arith, ⊎_elim}
+use Rattle.std.proofs.Common.{◌≡◌, ◌<◌, ◌≤◌, ◌+◌, ℕ, zero, suc, Bool, cond, eqb, ltb, List, [], ◌∷◌, length, get_or, insert, refl, sym, ap, subst, ◌∙◌, arith, ⊎_elim}
 use Rattle.std.proofs.lemmas.Bool.{cases_lt, cases_eq, lt-ltb, le-ltb, eq-eqb, ne_eqb, cond-true, cond-false}
 use Rattle.std.specs.BTreeSet.{insert_key}
 use Rattle.std.specs.Ordering.{nat_cmp, match_ordering}
 use Rattle.std.specs.declared.cmp.Ordering.{Ordering}
 use Rattle.std.specs.declared.cmp.Ordering.TheVariants.{Less, Equal, Greater}
-use Rattle.op_runs.specs.World.{node_ids}
-use Rattle.std.proofs.lemmas.List.{take_more}
 use Rattle.op_executions.specs.Ids.{count_below}
 
 -- ---- one step of the way to the place
@@ -66,16 +64,6 @@ put_new (x ∷ ids) k new = ⊎_elim (more (put_new ids k)) none (cases_lt x k)
         let count = count_none x ids k most in
         let differ : k ≡ x → ⊥ = λ e. new (subst (λ (n : ℕ). n < suc (length ids)) (sym count) (let at : 0 < suc (length ids) = omega arith in at)) (subst (λ (n : ℕ). get_or (x ∷ ids) n 0 ≡ k) (sym count) (sym e)) in
         below k x ids (⊎_elim (λ (e : k ≡ x). absurd (differ e)) (λ (d : k ≡ x → ⊥). omega (arith, most, d)) (cases_eq k x)) ∙ ap (λ (n : ℕ). insert (x ∷ ids) n k) (sym count)
-
--- one spare more
-pub one_spare : (members spares : List ℕ) (q : ℕ) → node_ids members (spares ++ q ∷ []) ≡ insert_key nat_cmp (node_ids members spares) q
-one_spare members [] q = refl
-one_spare members (s ∷ spares) q = one_spare (insert_key nat_cmp members s) spares q
-
-pub more_spares : (members spares ids new : List ℕ) (i d q : ℕ) → i < length spares → ids ≡ node_ids members (take i spares) → q ≡ get_or spares i d → new ≡ insert_key nat_cmp ids q → new ≡ node_ids members (take (i + 1) spares)
-more_spares members spares ids new i d q low before at more =
-    more ∙ ap (λ (ks : List ℕ). insert_key nat_cmp ks q) before ∙ sym (one_spare members (take i spares) q)
-    ∙ ap (λ (p : ℕ). node_ids members (take i spares ++ p ∷ [])) at ∙ ap (λ (ks : List ℕ). node_ids members ks) (sym (take_more spares i d low))
 
 -- an element that is there is the same whatever stands for one that isn't
 pub at_any : (xs : List ℕ) (n d e : ℕ) → n < length xs → get_or xs n d ≡ get_or xs n e

@@ -8,7 +8,7 @@ use Rattle.op_types.specs.declared.messages.Msg.{Msg}
 use Rattle.op_runs.specs.declared.events.Event.{Event}
 use Rattle.op_runs.specs.declared.summary.Line.{Line}
 use Rattle.op_runs.specs.Possible.{Named, ObserversInRange, named_ids, server_ids, is_possible, most_proposals, proposals_of, proposals_in, SparesInRange, WhatInRange}
-use Rattle.op_runs.specs.Schedules.{Seated, seated, seated_at, begun}
+use Rattle.op_runs.specs.Schedules.{Seated, seated, seated_at, observers_begun}
 use Rattle.op_runs.specs.World as runs
 use Rattle.op_runs.specs.World.{Votes, Observes, World, Node, Sent, Happening, Deed, first_world, node_ids, run_of, deed_of, node_at, sent_by, world_after, world_with, world_at_node, world_observed, world_at_observer, world_by_status_as, world_telling_more, world_with_as}
 use Rattle.op_bounds.specs.Messages.{AreIds}
@@ -73,7 +73,7 @@ module _ {S F : Type 0} (K : Kind S F) where
   -- ---- the start
 
   pub starts : (w : ServerWorld S) (members spares observers : List ℕ) → w.members ≡ members → MembersInRange members → SparesInRange members spares → ObserversInRange members spares observers → w.voters.items ≡ node_ids members spares → w.ids.items ≡ node_ids w.voters.items observers
-      → w.messages.items ≡ [] → w.lines ≡ [] → w.proposed ≡ 0 → AreFirst K members w.ids.items observers w.servers.items → HasRun K w spares observers (begun observers)
+      → w.messages.items ≡ [] → w.lines ≡ [] → w.proposed ≡ 0 → AreFirst K members w.ids.items observers w.servers.items → HasRun K w spares observers (observers_begun observers)
   starts w members spares observers is m s o voters ids none quiet unproposed first = record {
     range = record {
       first = subst (λ (ms : List ℕ). MembersInRange ms) (sym is) m;
@@ -84,20 +84,20 @@ module _ {S F : Type 0} (K : Kind S F) where
     ids = ap (λ (vs : List ℕ). let n : Named = record { servers = w.ids.items; voters = vs } in n) voters
         ∙ ap (λ (vs : List ℕ). let n : Named = record { servers = vs; voters = node_ids members spares } in n) all
         ∙ ap (λ (ms : List ℕ). named_ids ms spares observers) (sym is);
-    known = subst (λ (vs : List ℕ). All (HappeningInRange (IsMember vs)) (begun observers)) (sym all)
+    known = subst (λ (vs : List ℕ). All (HappeningInRange (IsMember vs)) (observers_begun observers)) (sym all)
         (begun_known (IsMember (server_ids members spares observers)) observers (rising_ids 0 observers o.rising) (observers_known members spares observers m s o));
     proposed = unproposed ∙ sym (begun_propose_none observers);
     servers = record { pids = first.pids; kept = first.kept };
-    shows = subst (λ (ms : List ℕ). Shows K w (run_of (first_world ms spares) (begun observers))) (sym is) shows_first;
+    shows = subst (λ (ms : List ℕ). Shows K w (run_of (first_world ms spares) (observers_begun observers))) (sym is) shows_first;
   }
     where
       all : w.ids.items ≡ server_ids members spares observers
       all = ids ∙ ap (λ (vs : List ℕ). node_ids vs observers) voters
 
-      have : HaveBegun members observers (server_ids members spares observers) (run_of (first_world members spares) (begun observers))
+      have : HaveBegun members observers (server_ids members spares observers) (run_of (first_world members spares) (observers_begun observers))
       have = have_begun members spares observers m s o
 
-      shows_first : Shows K w (run_of (first_world members spares) (begun observers))
+      shows_first : Shows K w (run_of (first_world members spares) (observers_begun observers))
       shows_first = record {
         servers = record {
           seats = map (first_seated members observers) (server_ids members spares observers);

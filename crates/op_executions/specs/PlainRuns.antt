@@ -3,7 +3,7 @@
 use Rattle.std.specs.Prelude.{◌≡◌, ℕ, Bool, List, ◌++◌, All}
 use Rattle.op_runs.specs.declared.events.Event.{Event}
 use Rattle.op_runs.specs.World.{Happening, all_done}
-use Rattle.op_runs.specs.Schedules.{begun, IsRunOf, IsFirstRefused, TellsNoFault}
+use Rattle.op_runs.specs.Schedules.{observers_begun, IsRunOf, IsFirstRefused, TellsNoFault}
 use Rattle.op_runs.specs.Summary.{run_execution}
 use Rattle.op_executions.specs.Laws.{reached}
 
@@ -23,7 +23,7 @@ abbrev pub PlainEventsCanBeDone : Type 0
 PlainEventsCanBeDone =
     (members spares observers : List ℕ) (mirrored : Bool) (events : List Event) (hs : List Happening)
     → ArePlain events → IsRunOf members spares observers mirrored events hs
-    → IsRunOf members spares observers mirrored events (begun observers ++ all_done events)
+    → IsRunOf members spares observers mirrored events (observers_begun observers ++ all_done events)
 
 -- one that has a run is never refused
 abbrev pub PlainRunsAreNotRefused : Type 0

@@ -40,8 +40,8 @@ pub struct Deed {
     pub doing: Doing,
 }
 
-/// What an event does that is possible where these messages were sent, if it does something by itself. A message that is
-/// delivered is copied.
+/// What an event does that is possible where these messages were sent, if it does something by itself. A
+/// message that is delivered is copied.
 #[inline(always)]
 pub fn deed_of(alloc: Global, messages: &[Sent], what: What) -> Result<Option<Deed>, NoMemory>
     requires { (ids : Named) × (is_possible ids (length messages.now) what ≡ true) }

@@ -6,8 +6,8 @@ use op_types::NoMemory;
 /// Why a run didn't end.
 #[derive(Clone, Copy, Debug, PartialEq, Eq)]
 pub enum RunFail {
-    /// The event of this number, from 0, names a node that is absent or a message that wasn't sent, and none before it
-    /// does.
+    /// The event of this number, from 0, names a node that is absent or a message that wasn't sent, and none
+    /// before it does.
     BadEvent { index: u64 },
     /// No memory was found.
     NoMemory,

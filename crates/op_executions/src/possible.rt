@@ -5,8 +5,8 @@ ghost use Rattle.op_runs.specs.Possible.{are_nodes, is_possible, proposals_of};
 use op_runs::What;
 use op_types::{Pid, is_among};
 
-/// Whether the servers that an event names are among these, those that a stop-sign names among those that may vote, and the message
-/// that it names is one of so many.
+/// Whether the servers that an event names are among these, those that a stop-sign names among those that may
+/// vote, and the message that it names is one of so many.
 pub fn is_possible(servers: &[Pid], voters: &[Pid], sent: u64, what: &What) -> bool
     ensures { result ≡ is_possible (record { servers = servers.now; voters = voters.now }) sent what.now }
 {

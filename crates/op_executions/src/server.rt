@@ -55,8 +55,9 @@ pub trait Server: Drop {
         ensures kept { IfOk result (λ s. kind.is_kept s) }
         ensures first { IfOk result (λ s. kind.is_first s) };
 
-    /// Does this here, in a world of these first members, with this fate, said in this line of the schedule. Gives the messages,
-    /// each to a server, and adds the lines that are reported. Without memory the server is lost.
+    /// Does this here, in a world of these first members, with this fate, said in this line of the schedule.
+    /// Gives the messages, each to a server, and adds the lines that are reported. Without memory the server
+    /// is lost.
     fn happens(
         &mut self,
         alloc: Global,

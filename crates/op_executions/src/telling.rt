@@ -11,8 +11,8 @@ use op_types::{Answer, Ballot, NoMemory, Outcome, Pid, Replies, Reply};
 use std::alloc::Global;
 use std::mem::replace;
 
-/// Adds the lines of a step at a node, said in this line of the schedule: what a proposal is answered at once, then what clients
-/// are answered, and then what reads are.
+/// Adds the lines of a step at a node, said in this line of the schedule: what a proposal is answered at
+/// once, then what clients are answered, and then what reads are.
 pub fn push_step_lines(
     lines: &mut Lines,
     line: u64,

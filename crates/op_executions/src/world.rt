@@ -1,7 +1,7 @@
 ghost use Rattle.std.specs.Prelude.{◌≡◌, ◌+◌, ◌<◌, ◌≤◌, [], map, true, false, length, All, IfOk, IfNone, IfSome, OnOk};
 ghost use Rattle.op_types.specs.Ranges.{MembersInRange};
 ghost use Rattle.op_runs.specs.Possible.{is_possible, most_proposals, proposals_of, ObserversInRange, SparesInRange, WhatInRange};
-ghost use Rattle.op_runs.specs.Schedules.{begun};
+ghost use Rattle.op_runs.specs.Schedules.{observers_begun};
 ghost use Rattle.op_runs.specs.World as runs;
 ghost use Rattle.op_executions.specs.Failing.{IfBadEvent};
 ghost use Rattle.op_executions.specs.Worlds.{place_of, named_of, GoesOn, HappenedAt, HasRun, IsRun, Shows, AreFirst};
@@ -17,10 +17,12 @@ use op_types::{Members, NoMemory, Pid, is_among};
 use std::alloc::Global;
 use std::mem::replace;
 
-/// How many lines most events give: a proposal gives what it is answered at once, and what its client is answered then.
+/// How many lines most events give: a proposal gives what it is answered at once, and what its client is
+/// answered then.
 const LINES_OF_EVENT: usize = 2;
 
-/// So many entries are not proposed: of fewer, each of which puts sixteen keys at most, eight bytes count the keys of every service.
+/// So many entries are not proposed: of fewer, each of which puts sixteen keys at most, eight bytes count the
+/// keys of every service.
 const MOST_PROPOSALS: u64 = 1 << 60;
 
 /// Members, spares and observers, all messages that were sent, and what the events gave to be reported.
@@ -55,7 +57,8 @@ impl<S: Server> ServerWorld<S> {
         requires members { MembersInRange members }
         requires spares { SparesInRange members spares.now }
         requires observers { ObserversInRange members spares.now observers.now }
-        ensures run { IfOk result (λ w. HasRun S.kind w spares.now observers.now (begun observers.now)) }
+        ensures run { IfOk result
+            (λ w. HasRun S.kind w spares.now observers.now (observers_begun observers.now)) }
         ensures members { IfOk result (λ w. w.members ≡ members) }
         ensures first { IfOk result (λ w. All S.kind.is_first w.servers.items) }
     {
@@ -83,9 +86,10 @@ impl<S: Server> ServerWorld<S> {
         self.lines = Lines::from_vec(lines);
     }
 
-    /// One event, with what is said of it beforehand. It is refused, as the event of number 0, exactly where it names a server
-    /// that is absent, in a stop-sign an observer, or a message that wasn't sent. Gives the place of the server where something was done; a stop or a failure
-    /// in a call of a disk does nothing by itself. There is no memory for 2^60 proposals or more.
+    /// One event, with what is said of it beforehand. It is refused, as the event of number 0, exactly where
+    /// it names a server that is absent, in a stop-sign an observer, or a message that wasn't sent. Gives the
+    /// place of the server where something was done; a stop or a failure in a call of a disk does nothing by
+    /// itself. There is no memory for 2^60 proposals or more.
     pub fn event(&mut self, event: Event, fate: S::Fate) -> Result<Option<usize>, RunFail>
         requires range { WhatInRange event.what }
         requires run { IsRun S.kind self.old }

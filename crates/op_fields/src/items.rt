@@ -6,8 +6,8 @@ ghost use Rattle.op_fields.specs.Items.{Reader, ReadsItems, read_by};
 use crate::fail::TakeFail;
 use std::alloc::Global;
 
-/// So many items from byte offset `first` on, and the offset after them. `item` reads the one at an offset, by the key of
-/// the one before it (0 for the first), and gives it, its own key, and the offset after it.
+/// So many items from byte offset `first` on, and the offset after them. `item` reads the one at an offset,
+/// by the key of the one before it (0 for the first), and gives it, its own key, and the offset after it.
 pub fn items_at<T: Drop, F: Fn(usize, u64) -> Result<(T, u64, usize), TakeFail>>(
     alloc: Global,
     count: u64,

@@ -45,7 +45,8 @@ pub fn put_u64(out: &mut Vec<u8>, n: u64) -> Result<(), NoMemory>
     Ok(())
 }
 
-/// Appends the length of these bytes, as a number of `width` bytes, and the bytes. Without memory nothing is appended.
+/// Appends the length of these bytes, as a number of `width` bytes, and the bytes. Without memory nothing is
+/// appended.
 pub fn put_counted(out: &mut Vec<u8>, width: u8, bytes: &[u8]) -> Result<(), NoMemory>
     requires { FitsWidth width (length bytes.now) }
     ensures ok { OnOk result (out.new.items ≡ out.old.items ++ counted_text width bytes.now) }

@@ -49,7 +49,8 @@ pub fn u64_in(bytes: &[u8], at: usize, low: u64, high: u64) -> Result<(u64, usiz
     Ok((n, at + 8))
 }
 
-/// The bytes after a length of one byte at byte offset `at`, if it is from low to high, and the offset after them.
+/// The bytes after a length of one byte at byte offset `at`, if it is from low to high, and the offset after
+/// them.
 pub fn bytes_after_u8(
     bytes: &[u8],
     at: usize,
@@ -66,7 +67,8 @@ pub fn bytes_after_u8(
     Ok((&bytes[next..next + len], next + len))
 }
 
-/// The bytes after a length of two bytes at byte offset `at`, if it is from low to high, and the offset after them.
+/// The bytes after a length of two bytes at byte offset `at`, if it is from low to high, and the offset after
+/// them.
 pub fn bytes_after_u16(
     bytes: &[u8],
     at: usize,
@@ -83,7 +85,8 @@ pub fn bytes_after_u16(
     Ok((&bytes[next..next + len], next + len))
 }
 
-/// The bytes after a length of eight bytes at byte offset `at`, if it is from low to high, and the offset after them.
+/// The bytes after a length of eight bytes at byte offset `at`, if it is from low to high, and the offset
+/// after them.
 pub fn bytes_after_u64(
     bytes: &[u8],
     at: usize,

@@ -53,8 +53,8 @@ pub fn take_u64(bytes: &[u8], at: usize) -> Result<u64, Short>
     Ok(u64::from_be_bytes([b[0], b[1], b[2], b[3], b[4], b[5], b[6], b[7]]))
 }
 
-/// The bytes after their length, a number of `width` bytes at byte offset `at`. Where fewer bytes remain for either, the
-/// place that is told is the length's.
+/// The bytes after their length, a number of `width` bytes at byte offset `at`. Where fewer bytes remain for
+/// either, the place that is told is the length's.
 pub fn take_counted<'a>(bytes: &'a [u8], at: usize, width: u8) -> Result<&'a [u8], Short>
     requires { IsWidth width }
     ensures found { IfOk result (λ text. IsCountedAt (width_of width) bytes.now at text.now) }

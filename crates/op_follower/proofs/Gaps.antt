@@ -1,5 +1,5 @@
 -- What is staged when a run has come: what stands at each place, and how far it goes without a gap.
-use Rattle.std.proofs.Common.{◌≡◌, ℕ, zero, suc, ◌+◌, ◌-◌, ◌<◌, ◌≤◌, Bool, true, false, cond, eqb, ltb, List, [], ◌∷◌, length, drop, get_or, refl, sym, ap, ◌∙◌, subst, arith, All, Option, Some, None, is_some, ⊎_elim}
+use Rattle.std.proofs.Common.{◌≡◌, ℕ, zero, suc, ◌+◌, ◌-◌, ◌<◌, ◌≤◌, Bool, true, false, cond, eqb, ltb, List, [], ◌∷◌, length, get_or, refl, sym, ap, ◌∙◌, subst, arith, All, Option, Some, None, is_some, ⊎_elim}
 use Rattle.std.specs.Prelude.{slice_get, nat_lt, nat_le}
 use Rattle.std.specs.Ordering.{nat_cmp, match_ordering}
 use Rattle.std.specs.declared.cmp.Ordering.TheVariants.{Less, Equal, Greater}
@@ -16,7 +16,7 @@ use Rattle.op_types.specs.Stages.{front_with, front_up_to, front_from, staged_fr
 use Rattle.std.proofs.lemmas.Option.{slice_get_within}
 use Rattle.std.proofs.lemmas.List.Elements.{All-nil, All-cons, All-head, All-tail, All-filter}
 use Rattle.op_types.proofs.Elements.{none_some, some_is}
-use Rattle.op_types.proofs.HeldLists.{at_past, at_first, at_before, none_above, above_less}
+use Rattle.op_types.proofs.HeldLists.{at_before, none_above, above_less}
 use Rattle.op_types.proofs.Stages.{Has, front_far}
 use Rattle.op_follower.specs.Staging.{brought_at, StagedIsAdmitted}
 
@@ -126,11 +126,6 @@ same_at h k a es i same = with_at h a es i ∙ ap (λ (o : Option Entry). kept_o
 
 -- ---- what is passed
 
--- the first one is found at its place
-pub first_here : (h : Held) (n : ℕ) (x : ℕ × Entry) → 1 ≤ length h → x ≡ get_or h 0 x → x.0 ≡ n → held_at h n ≡ Some x.1
-first_here [] n x some is here = absurd (omega arith)
-first_here (y ∷ h) n x some is here = at_first n y h (sym here ∙ ap (λ (z : ℕ × Entry). z.0) is) ∙ ap (λ (z : ℕ × Entry). Some z.1) (sym is)
-
 -- nothing is found at a place that was reached, where the first one stands elsewhere
 pub first_elsewhere : (h : Held) (n : ℕ) (x : ℕ × Entry) → 1 ≤ length h → x ≡ get_or h 0 x → Rises h → is_first_below h n ≡ false → (x.0 ≡ n → ⊥) → held_at h n ≡ None
 first_elsewhere [] n x some is rises passed other = refl
@@ -138,29 +133,6 @@ first_elsewhere (y ∷ h) n x some is rises passed other =
     let low : n ≤ y.0 = ltb-false y.0 n passed in
     ⊎_elim (λ (lt : n < y.0). at_before n y h lt ∙ none_above n h (above_less n y.0 h low rises.0))
     (λ (le : y.0 ≤ n). let same : y.0 ≡ n = omega arith in absurd (other (ap (λ (z : ℕ × Entry). z.0) is ∙ same))) (cases_lt n y.0)
-
-pub nothing_there : (h : Held) (n : ℕ) → length h < 1 → held_at h n ≡ None
-nothing_there [] n none = refl
-nothing_there (y ∷ h) n none = absurd (omega arith)
-
--- where none is left, none is below; nor where the first one isn't
-pub none_below : (h : Held) (n : ℕ) → length h < 1 → is_first_below h n ≡ false
-none_below [] n none = refl
-none_below (y ∷ h) n none = absurd (omega arith)
-
-pub first_above : (h : Held) (n : ℕ) (x : ℕ × Entry) → 1 ≤ length h → x ≡ get_or h 0 x → n ≤ x.0 → is_first_below h n ≡ false
-first_above [] n x some is low = refl
-first_above (y ∷ h) n x some is low = let same : x.0 ≡ y.0 = ap (λ (z : ℕ × Entry). z.0) is in le-ltb y.0 n (omega arith)
-
--- the others rise without the first one
-pub others_rise : (h : Held) → Rises h → Rises (drop 1 h)
-others_rise [] rises = tt
-others_rise (y ∷ h) rises = rises.1
-
--- and hold the same from a place behind it on
-pub others_same : (h : Held) (n : ℕ) (x : ℕ × Entry) → 1 ≤ length h → x ≡ get_or h 0 x → x.0 < n → (i : ℕ) → n ≤ i → held_at (drop 1 h) i ≡ held_at h i
-others_same [] n x some is below i le = refl
-others_same (y ∷ h) n x some is below i le = let same : x.0 ≡ y.0 = ap (λ (z : ℕ × Entry). z.0) is in sym (at_past i y h (omega arith))
 
 -- ---- what may come to the log
 

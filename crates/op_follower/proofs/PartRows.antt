@@ -124,6 +124,3 @@ later_is p q n part h x promised above accepted runs does v =
     does v
     ∙ ap (λ (b : Bool). cond b y none) (sym (ap (λ (b : Bool). b && (is_same_ballot p.accepted n && is_run_to part.end part.at part.run)) promised ∙ ap (λ (b : Bool). true && (b && is_run_to part.end part.at part.run)) accepted ∙ ap (λ (b : Bool). true && (true && b)) runs))
     ∙ ap (λ (b : Bool). cond b firsts (on_later_part p w q n part)) (sym (ap (λ (b : Bool). b && is_below p.accepted n) promised ∙ ap (λ (b : Bool). true && b) above))
-
-pub DoesStep-as : (h : Held) (x y : Plan) (f : Volatile → PartStep) → x ≡ y → DoesStep h y f → DoesStep h x f
-DoesStep-as h x y f is does v = ap (λ (plan : Plan). staging_step plan (record v { staged = h })) is ∙ does v

@@ -9,7 +9,8 @@ ghost use Rattle.op_follower.specs.Staging.{brought_at};
 use op_types::{Entries, Entry, SyncRun};
 use std::alloc::{AllocError as NoMemory, Global};
 
-/// Copies of all entries of a part's accept sync, if none is missing when the part has come. Else nothing is copied.
+/// Copies of all entries of a part's accept sync, if none is missing when the part has come. Else nothing is
+/// copied.
 pub(crate) fn whole_sync(
     alloc: Global,
     staged: &[(u64, Entry)],

@@ -16,8 +16,8 @@ use op_plans::{Member, push_append};
 use op_types::{Ballot, Body, Entries, Entry, Held, POSITIONS_END, Pid, Plan, SyncRun, Turn};
 use std::alloc::AllocError as NoMemory;
 
-/// A part of an accept sync comes in the promised round: it is staged, and what goes on from the log then is added to it.
-/// Nothing changes yet but the room for it.
+/// A part of an accept sync comes in the promised round: it is staged, and what goes on from the log then is
+/// added to it. Nothing changes yet but the room for it.
 pub fn on_accept_sync_part(
     member: &Member,
     staged: &mut Held,
@@ -54,8 +54,8 @@ fn is_run_to(end: u64, at: u64, run: &[Entry]) -> bool
     !run.is_empty() && at + run.len() as u64 <= end
 }
 
-/// A part of the first accept sync of the promised ballot: the leader's log takes the place of the own one once all of the
-/// accept sync is there.
+/// A part of the first accept sync of the promised ballot: the leader's log takes the place of the own one
+/// once all of the accept sync is there.
 fn first_part(
     member: &Member,
     staged: &mut Held,
@@ -133,7 +133,8 @@ fn later_part(
     staging(staged, plan, part, new_len)
 }
 
-/// What the leader is told of the log's new length: where entries are still missing before a place, it is asked to prepare.
+/// What the leader is told of the log's new length: where entries are still missing before a place, it is
+/// asked to prepare.
 fn appended_body(ballot: Ballot, len: u64, at: u64) -> Body
     ensures { result ≡ appended_body ballot len at }
 {
@@ -144,7 +145,8 @@ fn appended_body(ballot: Ballot, len: u64, at: u64) -> Body
     }
 }
 
-/// The plan stages a part too, for which there is room then; of all that is staged, what stands below a position leaves.
+/// The plan stages a part too, for which there is room then; of all that is staged, what stands below a
+/// position leaves.
 fn staging(staged: &mut Held, plan: Plan, part: SyncRun, from: u64) -> Result<Plan, NoMemory>
     requires { part.at + length part.run ≤ positions_end }
     ensures plan { IfOk result (λ x. x ≡ record plan { turn = Stage part.at part.run from }) }

@@ -108,7 +108,8 @@ impl Frames {
         self.skip(len);
     }
 
-    /// Goes on after so many bytes, as a stream whose heads have 4 or 8 bytes, and whose bodies have up to `limit` bytes.
+    /// Goes on after so many bytes, as a stream whose heads have 4 or 8 bytes, and whose bodies have up to
+    /// `limit` bytes.
     pub fn begin(&mut self, head: u8, limit: u64, count: usize)
         requires head { IsHead head }
         requires count { count ≤ length self.old.held }

@@ -37,7 +37,8 @@ impl Gen {
         }
     }
 
-    /// The next event, where so many messages were sent. It counts as drawn even where there is no memory for it.
+    /// The next event, where so many messages were sent. It counts as drawn even where there is no memory for
+    /// it.
     pub fn next(&mut self, alloc: Global, sent: u64) -> Result<Event, NoMemory>
         requires { IsNumber self.old.number }
         ensures event { IfOk result (λ e. e ≡ (event_drawn sent self.old).0) }

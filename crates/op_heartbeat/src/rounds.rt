@@ -20,7 +20,8 @@ pub fn round_after(round: u64) -> u64
     }
 }
 
-/// The heartbeat rounds of a member: the current one, and who replied in it. It and those that replied are voters, each once.
+/// The heartbeat rounds of a member: the current one, and who replied in it. It and those that replied are
+/// voters, each once.
 #[derive(Drop)]
 pub struct Rounds {
     me: Pid,
@@ -68,15 +69,16 @@ impl Rounds {
         self.round
     }
 
-    /// The reply to a request for this round, of a server that stands for its own ballot. The flag says whether it heard a
-    /// majority in its last round.
+    /// The reply to a request for this round, of a server that stands for its own ballot. The flag says
+    /// whether it heard a majority in its last round.
     pub fn answer(round: u64, own: Ballot, flag: bool) -> Body
         ensures { result ≡ HeartbeatReply round own flag }
     {
         Body::HeartbeatReply(round, own, flag)
     }
 
-    /// Keeps another member's reply, if it is for the current round. It takes the place of an earlier one of this member.
+    /// Keeps another member's reply, if it is for the current round. It takes the place of an earlier one of
+    /// this member.
     pub fn take_reply(&mut self, from: Pid, round: u64, ballot: Ballot, flag: bool)
         ensures { self.new ≡ reply_taken self.old round
             (record { from = from; ballot = ballot; flag = flag }) }

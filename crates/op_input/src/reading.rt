@@ -10,8 +10,8 @@ use std::alloc::Global;
 /// How much input is read, in bytes.
 pub const INPUT_LIMIT: usize = 67_108_864;
 
-/// All bytes of the input. The status tells why there are none: a read failed, there are more than 67,108,864, or there is
-/// no memory for them.
+/// All bytes of the input. The status tells why there are none: a read failed, there are more than
+/// 67,108,864, or there is no memory for them.
 pub fn read_input<S: Source>(alloc: Global, input: &mut S) -> Result<Vec<u8>, Status>
     ensures read { IfOk result (λ bytes. IsInput (S.left input.old) (S.left input.new) bytes.items) }
     ensures unread { IfErr result (IsUnread (S.left input.old)

@@ -19,8 +19,8 @@ pub struct Configured {
     pub settings: Settings,
 }
 
-/// The settings that the input holds, for the node of this id or for a cluster. The status tells why there are none: they are
-/// wrong, or the input could not be read.
+/// The settings that the input holds, for the node of this id or for a cluster. The status tells why there
+/// are none: they are wrong, or the input could not be read.
 pub fn read_settings<S: Source>(
     alloc: Global,
     input: &mut S,

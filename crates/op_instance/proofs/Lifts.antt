@@ -150,13 +150,6 @@ pub plain_room_ok : {E : Type 0} (x : Result Plan E) (v : Volatile) → IfOk x (
 plain_room_ok (Ok p) v plain = plain_room p.turn v plain
 plain_room_ok (Err err) v plain = tt
 
-pub news_plain : (batch : List Change) → IsPlain (news_turn batch)
-news_plain batch = by (begins_joining batch)
-  where
-    by : (b : Bool) → IsPlain (cond b turn.DropPieces turn.Stay)
-    by true = tt
-    by false = tt
-
 -- news raise no promise
 joins_quiet : (o : Option Joining) (q c : ℕ) (members olds : List ℕ) (len trimmed : ℕ) → raises_promise (joins o q c members olds len trimmed) ≡ false
 joins_quiet o q c members olds len trimmed = by_joining o

@@ -9,8 +9,8 @@ use op_plans::Member;
 use op_types::{Ballot, Body, Heard, Pid, Plan};
 use std::alloc::AllocError as NoMemory;
 
-/// A tick's plan, behind which a member that heard no majority asks those that replied to prepare it, where its promise is above
-/// the ballots of all that heard one.
+/// A tick's plan, behind which a member that heard no majority asks those that replied to prepare it, where
+/// its promise is above the ballots of all that heard one.
 pub(crate) fn also_asking(
     member: &Member,
     heard: &[Heard],

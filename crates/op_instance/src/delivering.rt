@@ -110,8 +110,8 @@ fn deliver_member(
     deliver_latest(stored, volatile, from, message)
 }
 
-/// A sender from above the latest configuration is asked to prepare this node in the latest one: it is above that, and so
-/// tells of the next one again.
+/// A sender from above the latest configuration is asked to prepare this node in the latest one: it is above
+/// that, and so tells of the next one again.
 fn answer_newer(stored: &Stored, to: Pid, body: &Body) -> Result<Sends, NoMemory>
     requires { IfListFits stored.now.durable.now.closed }
     ensures { IfOk result (λ sends. sends ≡ on_newer stored.now.durable.now to body.now) }
@@ -281,7 +281,8 @@ fn accept_of(ballot: Ballot, at: u64, entries: Entries) -> Accept
     }
 }
 
-/// What a message does to a role. What is of heartbeats, of elections, of what is staged or of joining does nothing here.
+/// What a message does to a role. What is of heartbeats, of elections, of what is staged or of joining does
+/// nothing here.
 fn route(member: &Member, role: &mut Role, from: Pid, body: Body) -> Result<Plan, NoMemory>
     requires sound { IsSound member.now.part.now (role_of role.old) }
     requires admitted { is_admitted_body member.now.part.now body ≡ true }

@@ -34,8 +34,8 @@ pub(crate) struct News {
 }
 
 impl Stored<'_> {
-    /// News of a configuration come: the node joins it, if it is named there and the configuration is above all that it
-    /// knows.
+    /// News of a configuration come: the node joins it, if it is named there and the configuration is above
+    /// all that it knows.
     pub(crate) fn hear_news(&self, from: Pid, news: News) -> Result<Plan, NoMemory>
         requires { IfListFits self.now.durable.now.closed }
         ensures step { IfOk result (λ plan. (v : steps.Volatile) → part_step_of plan v

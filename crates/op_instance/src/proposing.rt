@@ -30,8 +30,9 @@ pub(crate) struct Proposed {
 }
 
 impl Stored<'_> {
-    /// Why entries that are proposed together are refused, the first cause first: a stop-sign ends the log, the node knows
-    /// no leader, positions end before the last of them, or no number is left for the configuration after a stop-sign.
+    /// Why entries that are proposed together are refused, the first cause first: a stop-sign ends the log,
+    /// the node knows no leader, positions end before the last of them, or no number is left for the
+    /// configuration after a stop-sign.
     fn refusal(&self, role: &Role, proposed: Proposed) -> Option<Refusal>
         requires part { IfPositionsFit self.now.durable.now.part }
         requires closed { IfListFits self.now.durable.now.closed }

@@ -19,9 +19,9 @@ use op_trim::trim_now;
 use op_types::{Body, Input, NoMemory, Outcome, Pid, Plan, Role, is_among};
 
 impl Stored<'_> {
-    /// What comes of an input, but for the base of what it trims, what it decides, what it brings of a closed list, and what
-    /// comes of reads, by a plan in which nothing happens yet.
-    /// Nothing changes yet, but the room that the plan's turn needs.
+    /// What comes of an input, but for the base of what it trims, what it decides, what it brings of a closed
+    /// list, and what comes of reads, by a plan in which nothing happens yet. Nothing changes yet, but the
+    /// room that the plan's turn needs.
     pub fn step(
         &self,
         volatile: &mut Volatile,
@@ -121,8 +121,8 @@ impl Stored<'_> {
         }
     }
 
-    /// A session with another server begins. A node that has left its configuration tells a member of the next one of it, and
-    /// one that joins asks nobody.
+    /// A session with another server begins. A node that has left its configuration tells a member of the
+    /// next one of it, and one that joins asks nobody.
     fn up(&self, volatile: &Volatile, peer: Pid) -> Result<Plan, NoMemory>
         requires { IfListFits self.now.durable.now.closed }
         ensures step { IfOk result (λ plan. part_step_of plan (volatile_of volatile.now)

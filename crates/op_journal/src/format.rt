@@ -1,4 +1,5 @@
-//! An area is begun, in three parts: its gate is closed, all after the gate is written, and the gate is opened.
+//! An area is begun, in three parts: its gate is closed, all after the gate is written, and the gate is
+//! opened.
 ghost use Rattle.std.specs.Prelude.{◌≡◌, ◌<◌, ◌≤◌, ◌+◌, ℕ, length, true, IfOk, OnOk};
 ghost use Rattle.op_outside.specs.Disks.{disk_end, Called, Costs};
 ghost use Rattle.op_journal.specs.Areas.{IsGeneration, IsNextGate, header_len};
@@ -15,9 +16,10 @@ use crate::synced::write_synced;
 use op_outside::Disk;
 
 impl Journal {
-    /// Begins an area of one record on a disk, in place of what it held, and gives the byte offset of the closed gate after
-    /// the record. The gate is closed first, unless a closed one stands before more bytes, as `is_closed` says: without it,
-    /// older bytes could be taken for an area. It fails where a call of the disk does, with its count of faults.
+    /// Begins an area of one record on a disk, in place of what it held, and gives the byte offset of the
+    /// closed gate after the record. The gate is closed first, unless a closed one stands before more bytes,
+    /// as `is_closed` says: without it, older bytes could be taken for an area. It fails where a call of the
+    /// disk does, with its count of faults.
     pub fn format<D: Disk>(
         disk: &mut D,
         is_closed: bool,

@@ -93,8 +93,8 @@ impl Map {
         Ok((answers, change))
     }
 
-    /// Goes on with a plan: the answers to these commands too, and the change that they make too. Without memory the
-    /// plan is to be given up, since a part of it is done.
+    /// Goes on with a plan: the answers to these commands too, and the change that they make too. Without
+    /// memory the plan is to be given up, since a part of it is done.
     pub fn plan_more(
         &self,
         alloc: Global,
@@ -111,8 +111,8 @@ impl Map {
         change.serve_all(alloc, &self.kept, answers, commands)
     }
 
-    /// What the service answers one more command of a plan, which takes its effect in the plan's change. Without memory the
-    /// plan is to be given up.
+    /// What the service answers one more command of a plan, which takes its effect in the plan's change.
+    /// Without memory the plan is to be given up.
     pub fn serve(
         &self,
         alloc: Global,

@@ -120,7 +120,8 @@ fn told_at(bytes: &[u8], at: usize) -> Option<(Told<'_>, usize)>
     }
 }
 
-/// The client and its last command at a byte offset, if the client stands above `low`, and the offset after them.
+/// The client and its last command at a byte offset, if the client stands above `low`, and the offset after
+/// them.
 pub(crate) fn client_at(bytes: &[u8], at: usize, low: u64) -> Option<(LastCommand<'_>, usize)>
     ensures { option_map (λ x. (kept_of x.0, x.1)) result ≡ result_ok ((client_above low).read bytes.now at) }
 {

@@ -23,10 +23,6 @@ history_none lists (suc count) conf = refl
 abbrev pub next_of : List Entry → Option (List ℕ)
 next_of l = option_map (λ s. s.members) (stop_at_end l)
 
--- one list, and then the others
-pub history_one : (lists : ℕ → List Entry) (count conf : ℕ) (members : List ℕ) → history_from lists (suc count) conf (Some members) ≡ lists conf ++ history_from lists count (conf + 1) (next_of (lists conf))
-history_one lists count conf members = refl
-
 none_some : {A : Type 0} (a : A) → None ≡ Some a → ⊥
 none_some a e = cc
 

@@ -29,9 +29,6 @@ use Rattle.op_laws.proofs.Closing.{OnlyDecides, message_only}
 none_some : {A : Type 0} (a : A) → None ≡ Some a → ⊥
 none_some a e = cc
 
-some_same : {A : Type 0} (a b : A) → Some a ≡ Some b → a ≡ b
-some_same a b e = cc
-
 -- ---- whether an Accepted comes at the leader
 
 abbrev says_accepted : Body → Bool

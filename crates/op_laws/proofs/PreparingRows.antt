@@ -45,7 +45,7 @@ use Rattle.op_protocol.specs.Serving.{serving, dropping}
 use Rattle.op_protocol.specs.Rows.{entries_of, refusal_of, stop_for, on_body, message_at, may_be_above, on_latest, proposal_at, step_at, newly_decided, planned}
 use Rattle.op_protocol.specs.Configurations.{latest_of}
 use Rattle.op_protocol.specs.Joining.{storing_news}
-use Rattle.op_protocol.specs.Trimming.{least_reported, trims, trims_reported, trim_now, on_progress, on_trim_ask, on_trim}
+use Rattle.op_protocol.specs.Trimming.{least_reported, trims_reported, trim_now, on_progress, on_trim_ask, on_trim}
 use Rattle.op_protocol.proofs.StepBatches.{Rises}
 use Rattle.op_refinement.proofs.View.{Each, Each-append}
 use Rattle.op_laws.proofs.Leads.{lead_rises}
@@ -243,9 +243,6 @@ down_quiet p (role.Preparing r) q = keeps_on p r _ refl tt r refl [] (sym (appen
 down_quiet p (role.Leading l) q = leads p _ _ _ refl
 
 -- ---- trimming
-trims_quiet : (me : ℕ) (p : Part) (l : Leading) (x : ℕ) → IsQuiet p (role.Leading l) (trims me p l x)
-trims_quiet me p l x = cond_both (ltb p.trimmed x) _ _ (IsQuiet p (role.Leading l)) (λ _. leads p _ _ l refl) (λ _. leads p _ _ l refl)
-
 leader_stays : (me : ℕ) (p : Part) (l : Leading) (o : Option ℕ) → (k : Leading) × ((trims_reported me p l o).role ≡ role.Leading k)
 leader_stays me p l None = (l, refl)
 leader_stays me p l (Some x) = (without_reports l, cond_both (ltb p.trimmed x) _ _ (λ (e : Effects). e.role ≡ role.Leading (without_reports l)) (λ _. refl) (λ _. refl))

@@ -1,8 +1,7 @@
 -- What comes of a part of a promise, by whether it completes the promise, and what that does.
-use Rattle.std.proofs.Common.{◌≡◌, ◌||◌, ℕ, ◌+◌, ◌&&◌, not, Bool, true, false, cond, eqb, leb, List, [], ◌∷◌, length, filter, refl, sym, ap, ◌∙◌, Option, Some, None, is_some}
+use Rattle.std.proofs.Common.{◌≡◌, ◌||◌, ℕ, ◌&&◌, Bool, true, false, cond, eqb, List, [], ◌∷◌, length, filter, refl, sym, ap, ◌∙◌, Option, Some, None, is_some}
 use Rattle.std.proofs.lemmas.Bool.{false≢true, true≢false, eq-eqb, and_from}
 use Rattle.op_types.specs.Ballots.{is_same_ballot}
-use Rattle.op_types.specs.Changes.{len_of}
 use Rattle.op_types.specs.Joinings.{Held}
 use Rattle.op_types.specs.RoleStates as state
 use Rattle.op_types.specs.RoleStates.{promise_of, promises_with, with_promise, without_stage, kept_once, told_by}
@@ -15,7 +14,7 @@ use Rattle.op_types.specs.declared.role.Promised.{Promised}
 use Rattle.op_types.specs.declared.runs.PromisedRun.{PromisedRun}
 use Rattle.op_quorum.specs.Quorums.{is_majority}
 use Rattle.op_protocol.specs.Parts.{nothing}
-use Rattle.op_protocol.specs.Promises.{has_quorum, is_above, is_usable}
+use Rattle.op_protocol.specs.Promises.{has_quorum, is_usable}
 use Rattle.op_protocol.specs.Leader.{adopt, prepares, on_promise, promised_once}
 use Rattle.op_leader.proofs.Adopts.{adopts_for}
 use Rattle.op_choosing.proofs.Promises.{promise_of_with}
@@ -33,11 +32,6 @@ prepares_on : (me : ℕ) (p : Part) (r : state.Preparing) → has_quorum me p.me
 prepares_on me p r quorum = ap (λ (b : Bool). cond b (adopt me p r) (nothing (Preparing r))) quorum
 
 -- ---- the rows of a part
-
--- it doesn't complete the promise
-pub stays_staged : (me : ℕ) (p : Part) (r : state.Preparing) (q : ℕ) (part : PromisedRun) (h : Held) (o : Option (List Entry)) → is_some o ≡ false → nothing (Preparing (kept_once r q part h o)) ≡ promised_once me p r q part h o
-stays_staged me p r q part h None missing = refl
-stays_staged me p r q part h (Some es) missing = absurd (true≢false missing)
 
 -- it does, and no majority promised
 pub stays_kept : (me : ℕ) (p : Part) (r : state.Preparing) (q : ℕ) (part : PromisedRun) (h : Held) (o : Option (List Entry)) → is_some o ≡ true
@@ -92,15 +86,3 @@ pub same_quorum : (me : ℕ) (members : List ℕ) (promises : List Promised) (j 
 same_quorum me members promises j k same =
     ap (λ (l : List ℕ). is_majority (length l) (length members))
     (alike (λ q. eqb q me || is_some (promise_of (promises_with promises j) q)) (λ q. eqb q me || is_some (promise_of (promises_with promises k) q)) members (λ q. voted me q promises j k same))
-
--- ---- whether it is usable
-
--- the entries of a whole promise reach to the log's length
-pub usable_whole : (p : Part) (k : Promised) → k.start + length k.entries ≡ k.len → is_usable p k ≡ (not (is_above k.accepted k.len p.accepted (len_of p)) || (leb p.decided k.start && leb k.start (len_of p)))
-usable_whole p k whole =
-    ap (λ (b : Bool). not (is_above k.accepted k.len p.accepted (len_of p)) || (leb p.decided k.start && (leb k.start (len_of p) && b))) (eq-eqb (k.start + length k.entries) k.len whole)
-    ∙ ap (λ (b : Bool). not (is_above k.accepted k.len p.accepted (len_of p)) || (leb p.decided k.start && b)) (with_true (leb k.start (len_of p)))
-  where
-    with_true : (b : Bool) → (b && true) ≡ b
-    with_true true = refl
-    with_true false = refl

@@ -1,18 +1,16 @@
 -- What is staged stands within the positions, and so does a promise of which all is there.
-use Rattle.std.proofs.Common.{◌≡◌, ℕ, ◌+◌, ◌-◌, ◌<◌, ◌≤◌, Bool, true, false, cond, eqb, leb, ltb, ◌&&◌, not, List, [], ◌∷◌, ◌++◌, length, filter, refl, sym, ap, ◌∙◌, arith, Option, Some, None, is_some}
+use Rattle.std.proofs.Common.{◌≡◌, ℕ, ◌+◌, ◌-◌, ◌<◌, ◌≤◌, Bool, true, false, cond, eqb, List, [], ◌∷◌, length, refl, sym, ap, ◌∙◌, arith, Option, Some, None, is_some}
 use Rattle.std.specs.Cmp.{unsigned_ties}
-use Rattle.std.proofs.lemmas.Bool.{false≢true, eqb-true, eq-eqb, leb-true, ltb-true, and_parts, cond_both}
+use Rattle.std.proofs.lemmas.Bool.{false≢true, eqb-true, cond_both}
 use Rattle.std.proofs.lemmas.Option.{slice_get_within}
 use Rattle.op_types.specs.Limits.{positions_end}
 use Rattle.op_types.specs.declared.log.Entry.{Entry}
 use Rattle.op_types.specs.declared.runs.PromisedRun.{PromisedRun}
 use Rattle.op_types.specs.Joinings.{Held, held_at, held_with}
 use Rattle.op_types.specs.Rings.{AreBelow}
-use Rattle.op_types.specs.RoleStates as state
-use Rattle.op_types.specs.RoleStates.{stage_of, stages_without, with_stage, without_stage, staged_with, told_by}
+use Rattle.op_types.specs.RoleStates.{stage_of, told_by}
 use Rattle.op_types.proofs.Elements.{none_some}
 use Rattle.op_types.proofs.Stages.{EachHeld, with_each}
-use Rattle.op_protocol.specs.Parts.{is_run_to}
 use Rattle.op_choosing.specs.Choosing.{IsAdmitted}
 use Rattle.op_leader.specs.Adopting.{AreStagedWithin}
 use Rattle.op_leader.specs.Completing.{IsRun, whole_with}
@@ -30,18 +28,6 @@ below_each end (x ∷ xs) below i e is = by (eqb i x.0) refl (below_each end xs 
     by : (b : Bool) → eqb i x.0 ≡ b → (held_at xs i ≡ Some e → i < end) → cond b (Some x.1) (held_at xs i) ≡ Some e → i < end
     by true c later k = omega (arith, eqb-true i x.0 c, below.0)
     by false c later k = later k
-
--- the first one is found at its position
-head_found : (x : ℕ × Entry) (xs : Held) → held_at (x ∷ xs) x.0 ≡ Some x.1
-head_found x xs = let same : eqb x.0 x.0 ≡ true = eq-eqb x.0 x.0 refl in head_is x.0 x xs ∙ ap (λ (b : Bool). cond b (Some x.1) (held_at xs x.0)) same
-
-each_below : (end : ℕ) (h : Held) → EachHeld (λ i e. i < end) h → AreBelow end h
-each_below end [] each = tt
-each_below end (x ∷ xs) each = (each x.0 x.1 (head_found x xs), each_below end xs (λ i e is. by (eqb i x.0) i e refl is))
-  where
-    by : (b : Bool) (i : ℕ) (e : Entry) → eqb i x.0 ≡ b → held_at xs i ≡ Some e → i < end
-    by true i e c is = let here : x.0 < end = each x.0 x.1 (head_found x xs) in omega (arith, eqb-true i x.0 c, here)
-    by false i e c is = each i e (head_is i x xs ∙ ap (λ (b : Bool). cond b (Some x.1) (held_at xs i)) c ∙ is)
 
 with_within : (end : ℕ) (h : Held) (at : ℕ) (es : List Entry) → AreBelow end h → at + length es ≤ end → EachHeld (λ i e. i < end) (held_with h at es)
 with_within end h at es below fits = with_each (λ i e. i < end) h at es (below_each end h below) (λ j e is. let lt : j < length es = slice_get_within es j e is in omega arith)
@@ -73,36 +59,3 @@ whole_admitted h part q es run below whole =
 pub within_of : (stages : List (ℕ × Held)) (q : ℕ) → AreStagedWithin stages → AreBelow positions_end (stage_of stages q)
 within_of [] q all = tt
 within_of (s ∷ stages) q all = cond_both (eqb s.0 q) s.1 (stage_of stages q) (AreBelow positions_end) (λ _. all.0) (λ _. within_of stages q all.1)
-
-within_filter : (t : ℕ × Held → Bool) (stages : List (ℕ × Held)) → AreStagedWithin stages → AreStagedWithin (filter t stages)
-within_filter t [] all = tt
-within_filter t (s ∷ stages) all = cond_both (t s) (s ∷ filter t stages) (filter t stages) AreStagedWithin (λ _. (all.0, within_filter t stages all.1)) (λ _. within_filter t stages all.1)
-
-within_last : (stages : List (ℕ × Held)) (s : ℕ × Held) → AreStagedWithin stages → AreBelow positions_end s.1 → AreStagedWithin (stages ++ s ∷ [])
-within_last [] s all below = (below, tt)
-within_last (t ∷ stages) s all below = (all.0, within_last stages s all.1 below)
-
--- a sender's stage is let go
-pub without_within : (r : state.Preparing) (q : ℕ) → AreStagedWithin r.stages → AreStagedWithin (without_stage r q).stages
-without_within r q all = within_filter (λ s. not (eqb s.0 q)) r.stages all
-
--- a part comes to it
-pub stage_within : (r : state.Preparing) (q : ℕ) (part : PromisedRun) → AreStagedWithin r.stages → part.at + length part.run ≤ positions_end → AreStagedWithin (with_stage r q (staged_with r q part)).stages
-stage_within r q part all small =
-    let held : Held = staged_with r q part in
-    let low : AreBelow positions_end held = each_below positions_end held (with_within positions_end (stage_of r.stages q) part.at part.run (within_of r.stages q all) small) in
-    within_last (stages_without r.stages q) (q, held) (without_within r q all) low
-
--- ---- runs
-
--- a part that is looked at, and whose run is admitted
-pub run_of : (part : PromisedRun) → (leb part.start part.at && is_run_to part.len part.at part.run) ≡ true → part.at + length part.run ≤ positions_end → IsRun part
-run_of part looked small =
-    let first = and_parts (leb part.start part.at) (is_run_to part.len part.at part.run) looked in
-    let second = and_parts (ltb 0 (length part.run)) (leb (part.at + length part.run) part.len) first.1 in
-    record {
-      low = leb-true part.start part.at first.0;
-      some = ltb-true 0 (length part.run) second.0;
-      within = leb-true (part.at + length part.run) part.len second.1;
-      small = small;
-    }

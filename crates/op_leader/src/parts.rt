@@ -22,8 +22,8 @@ use op_plans::Member;
 use op_types::{Ballot, Entries, Pid, Plan, Preparing, Promised, PromisedRun, Role, Turn};
 use std::alloc::AllocError as NoMemory;
 
-/// A part of a promise comes: it is staged until all of the promise is there, which then counts as if it had come whole. At a
-/// leader the last part counts as a promise without entries.
+/// A part of a promise comes: it is staged until all of the promise is there, which then counts as if it had
+/// come whole. At a leader the last part counts as a promise without entries.
 pub fn on_promise_part(
     member: &Member,
     role: &mut Role,

@@ -20,8 +20,8 @@ use op_types::{
 };
 use std::alloc::{AllocError as NoMemory, Global};
 
-/// Entries are added to the log, wait in the buffer, or go to whom the node takes for the leader, together, by a plan in which
-/// nothing happens yet.
+/// Entries are added to the log, wait in the buffer, or go to whom the node takes for the leader, together,
+/// by a plan in which nothing happens yet.
 pub fn propose(
     member: &Member,
     role: &mut Role,

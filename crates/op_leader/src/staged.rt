@@ -9,8 +9,8 @@ use op_types::{Entries, Entry, Held, Pid, Promised, PromisedRun, Reserved, Seq, 
 use std::alloc::{AllocError as NoMemory, Global};
 use std::mem;
 
-/// Makes room for a number of entries more in a sender's stage, where it has one; what is staged stays. Gives an empty stage,
-/// which has the room where the sender has none.
+/// Makes room for a number of entries more in a sender's stage, where it has one; what is staged stays. Gives
+/// an empty stage, which has the room where the sender has none.
 pub(crate) fn make_stage_room(
     alloc: Global,
     stages: &mut Reserved<Stage>,
@@ -90,8 +90,8 @@ fn copy_stage(alloc: Global, stages: &[Stage], from: Pid) -> Result<Held, NoMemo
     }
 }
 
-/// Whether a part completes its sender's promise: what is staged reaches from the promise's start to the run, and from there
-/// to the end. It takes no memory.
+/// Whether a part completes its sender's promise: what is staged reaches from the promise's start to the run,
+/// and from there to the end. It takes no memory.
 pub(crate) fn completes(stages: &[Stage], from: Pid, part: &PromisedRun) -> bool
     requires { IsRun part.now }
     ensures { result ≡ is_some (whole_with (staged_of stages.now from) part.now) }

@@ -1,21 +1,9 @@
 -- What a read gives after some calls, and what it would give had the last one taken place.
-use Rattle.std.proofs.Common.{◌≡◌, ℕ, suc, ◌+◌, ◌<◌, List, [], ◌∷◌, ◌++◌, length, drop, get_or, refl, sym, ◌∙◌, ap, arith}
-use Rattle.std.proofs.Math.Seq.{drop-cons}
+use Rattle.std.proofs.Common.{◌≡◌, ℕ, List, [], ◌∷◌, ◌++◌, refl, sym, ◌∙◌, ap}
 use Rattle.op_memory.specs.declared.call.Call.{Call}
 use Rattle.op_memory.specs.declared.call.Call.TheVariants.{Write, StoppedWrite, Cut, StoppedCut, Sync}
 use Rattle.op_memory.specs.Images.{State, fresh, after, state_of, completed}
-use Rattle.op_memory.proofs.Moments.{state-push, content-after}
-
-content-state_of : (calls : List Call) (s t : State) → s.content ≡ t.content → (state_of s calls).content ≡ (state_of t calls).content
-content-state_of [] s t e = e
-content-state_of (call ∷ calls) s t e = content-state_of calls (after call s) (after call t) (content-after call s t e)
-
-pub content_step : (calls : List Call) (i : ℕ) (call : Call) (bytes next : List ℕ) → i < length calls → call ≡ get_or calls i call
-    → next ≡ (after call (fresh bytes)).content → (state_of (fresh next) (drop (i + 1) calls)).content ≡ (state_of (fresh bytes) (drop i calls)).content
-content_step calls i call bytes next lt is to =
-    let e : i + 1 ≡ suc i = omega arith in
-    let prefix : drop i calls ≡ call ∷ drop (i + 1) calls = drop-cons calls i call lt ∙ ap (λ (x : Call). x ∷ drop (suc i) calls) (sym is) ∙ ap (λ (k : ℕ). call ∷ drop k calls) (sym e) in
-    content-state_of (drop (i + 1) calls) (fresh next) (after call (fresh bytes)) to ∙ ap (λ (l : List Call). (state_of (fresh bytes) l).content) (sym prefix)
+use Rattle.op_memory.proofs.Moments.{state-push}
 
 completed-after : (call : Call) (s : State) → completed call (after call s).content ≡ (after call s).whole
 completed-after (Write at v) s = refl

@@ -10,7 +10,8 @@ use crate::power::Power;
 use op_outside::{DISK_END, Disk, DiskFail};
 use std::alloc::{AllocError, Global};
 
-/// A disk in memory. It keeps its writes, cuts and syncs, fails at the calls that it is told to, and stops at one.
+/// A disk in memory. It keeps its writes, cuts and syncs, fails at the calls that it is told to, and stops at
+/// one.
 #[derive(Drop)]
 pub struct MemDisk {
     alloc: Global,
@@ -86,15 +87,16 @@ impl MemDisk {
         self.script.is_stopped()
     }
 
-    /// Whether it was told to stop in its next call, and has not stopped. The switch that it shares isn't asked.
+    /// Whether it was told to stop in its next call, and has not stopped. The switch that it shares isn't
+    /// asked.
     pub fn stops_next(&self) -> bool
         ensures { result ≡ is_due self.now.script }
     {
         self.script.stops_next()
     }
 
-    /// It shares this switch from now on, in place of any other. In a call in which it stops it switches the power off, and
-    /// where the power is off it stops in its next call, as `stop_at` has it.
+    /// It shares this switch from now on, in place of any other. In a call in which it stops it switches the
+    /// power off, and where the power is off it stops in its next call, as `stop_at` has it.
     pub fn share_power(&mut self, power: Power)
         ensures same { IsUnchanged self.old self.new }
         ensures script { IsSameScript self.old.script self.new.script }
@@ -103,8 +105,8 @@ impl MemDisk {
         self.power = Some(power);
     }
 
-    /// This call fails. The calls of `Disk` count, but for `faults`, from 1 since the disk was made. On an error, which is for
-    /// want of memory, nothing has changed.
+    /// This call fails. The calls of `Disk` count, but for `faults`, from 1 since the disk was made. On an
+    /// error, which is for want of memory, nothing has changed.
     pub fn fail_at(&mut self, call: u64) -> Result<(), AllocError>
         ensures same { IsUnchanged self.old self.new }
         ensures power { self.new.power ≡ self.old.power }
@@ -114,8 +116,8 @@ impl MemDisk {
         self.script.fail_at(call)
     }
 
-    /// The disk stops in this call, or in the next one where that is later. The call fails, a write or a cut is then
-    /// pending, and each later call fails. Calls count as for `fail_at`.
+    /// The disk stops in this call, or in the next one where that is later. The call fails, a write or a cut
+    /// is then pending, and each later call fails. Calls count as for `fail_at`.
     pub fn stop_at(&mut self, call: u64)
         ensures same { IsUnchanged self.old self.new }
         ensures power { self.new.power ≡ self.old.power }
@@ -131,8 +133,8 @@ impl MemDisk {
         self.script.made()
     }
 
-    /// No call is told to fail any more, and the disk is not to stop: one that has stopped runs again. It lets go of the
-    /// switch that it shares. One that was killed still fails.
+    /// No call is told to fail any more, and the disk is not to stop: one that has stopped runs again. It
+    /// lets go of the switch that it shares. One that was killed still fails.
     pub fn clear_script(&mut self)
         ensures same { IsUnchanged self.old self.new }
         ensures power { self.new.power ≡ None }
@@ -149,8 +151,8 @@ impl MemDisk {
         self.faults.count = faults;
     }
 
-    /// What a crash now leaves: at 0 nothing that is pending took place, at 1 all of it did, and at any other number each
-    /// range that is pending holds that byte, at the greatest length.
+    /// What a crash now leaves: at 0 nothing that is pending took place, at 1 all of it did, and at any other
+    /// number each range that is pending holds that byte, at the greatest length.
     pub fn image(&self, number: u8) -> Result<Vec<u8>, AllocError>
         ensures { IfOk result (λ x. IsImageOf self.now number x.items) }
     {
@@ -161,7 +163,8 @@ impl MemDisk {
         }
     }
 
-    /// What `image` gives, without the write or the cut in which the disk stopped: at 1 it is then what a read gives.
+    /// What `image` gives, without the write or the cut in which the disk stopped: at 1 it is then what a
+    /// read gives.
     pub fn image_before(&self, number: u8) -> Result<Vec<u8>, AllocError>
         ensures { IfOk result (λ x. IsImageBefore self.now number x.items) }
     {
@@ -175,8 +178,8 @@ impl MemDisk {
         }
     }
 
-    /// What `image` gives, as if the call in which the disk stopped had been done: where that was a sync it is what a read
-    /// gives, and a write or a cut in which it stopped is pending as it is.
+    /// What `image` gives, as if the call in which the disk stopped had been done: where that was a sync it
+    /// is what a read gives, and a write or a cut in which it stopped is pending as it is.
     pub fn image_done(&self, number: u8) -> Result<Vec<u8>, AllocError>
         ensures { IfOk result (λ x. IsImageDone self.now number x.items) }
     {
@@ -186,7 +189,8 @@ impl MemDisk {
         self.image(number)
     }
 
-    /// Whether the same is pending of both, so that a crash now may leave the same of them. It takes time for their lengths.
+    /// Whether the same is pending of both, so that a crash now may leave the same of them. It takes time for
+    /// their lengths.
     pub fn pends_as(&self, other: &MemDisk) -> Result<bool, AllocError>
         ensures { IfOk result (λ same. IsTrue same ↔ PendAlike self.now other.now) }
     {
@@ -195,9 +199,10 @@ impl MemDisk {
         Ok(pends.is_same(&others))
     }
 
-    /// The same disk, which no longer keeps the calls up to its last sync: it takes time for the calls since it last forgot,
-    /// and none for its length. Its moments begin anew, and one of before says nothing of it. What a read gives, what a crash
-    /// now may leave, the script and both counts are as they were. It is lost where there is no memory.
+    /// The same disk, which no longer keeps the calls up to its last sync: it takes time for the calls since
+    /// it last forgot, and none for its length. Its moments begin anew, and one of before says nothing of it.
+    /// What a read gives, what a crash now may leave, the script and both counts are as they were. It is lost
+    /// where there is no memory.
     pub fn forget(self) -> Result<MemDisk, AllocError>
         ensures forgets { IfOk result (Forgets self) }
         ensures known { IfOk result (λ d. BeginsAnew (known_disk self) (known_disk d)) }

@@ -50,7 +50,8 @@ impl Model for FakeSpawner {
 }
 
 impl FakeSpawner {
-    /// Ends give these statuses in their order, and 0 after them. The calls `fails`, which count from 1, fail.
+    /// Ends give these statuses in their order, and 0 after them. The calls `fails`, which count from 1,
+    /// fail.
     pub fn new(alloc: Global, statuses: VecDeque<u8>, fails: Vec<u64>) -> FakeSpawner
         ensures { result ≡ record {
           statuses = statuses.items;

@@ -86,7 +86,8 @@ impl FaultScript {
         self.made
     }
 
-    /// No call is to fail any more, unless the disk was killed, and it is not to stop: one that has stopped runs again.
+    /// No call is to fail any more, unless the disk was killed, and it is not to stop: one that has stopped
+    /// runs again.
     pub fn clear(&mut self)
         ensures { Clears self.old self.new }
     {

@@ -7,7 +7,8 @@ use std::marker::Model;
 /// So many bytes lie in a piece itself.
 const SHORT: usize = 16;
 
-/// Bytes of a call of a disk in memory. A few lie in the piece itself, so that most calls take no memory for them.
+/// Bytes of a call of a disk in memory. A few lie in the piece itself, so that most calls take no memory for
+/// them.
 #[derive(Drop)]
 pub struct Piece {
     kept: Kept,

@@ -2,8 +2,8 @@ use std::alloc::{AllocError, Global};
 use std::cell::Cell;
 use std::rc::Rc;
 
-/// A power switch that several disks in memory share. It is on until it is switched off. No clause says which: nothing is
-/// known of what is shared.
+/// A power switch that several disks in memory share. It is on until it is switched off. No clause says
+/// which: nothing is known of what is shared.
 #[derive(Drop)]
 pub struct Power {
     is_off: Rc<Cell<bool>>,

@@ -15,7 +15,8 @@ use std::marker::Model;
 /// What comes for a read.
 #[derive(Drop)]
 pub enum Incoming {
-    /// These bytes. A read gives those that its buffer has room for, and the others are lost. No bytes are `NotYet`.
+    /// These bytes. A read gives those that its buffer has room for, and the others are lost. No bytes are
+    /// `NotYet`.
     Bytes(Vec<u8>),
     /// There are no bytes now.
     NotYet,

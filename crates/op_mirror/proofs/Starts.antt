@@ -19,12 +19,6 @@ of_either Neither f c counts a b x left = ⊎_elim (λ p. inl p.1) (λ p. inr p.
 of_either First f c counts a b x left = ⊎_elim (λ p. inl p.1) (λ p. inr p.1) left
 of_either Second f c counts a b x left = ⊎_elim (λ p. inl p.1) (λ p. inr p.1) left
 
--- and while none is out, a crash of either copy leaves it of the mirror
-pub from_either : (gone : Gone) (f c : ℕ) (counts : List ℕ) (a b : DiskState) (x : List ℕ) → gone ≡ Neither → LeftOfEither a b x → MayLeave (mirrored gone f c counts a b) x
-from_either Neither f c counts a b x is left = ⊎_elim (λ p. inl (tt, p)) (λ p. inr (tt, p)) left
-from_either First f c counts a b x is left = absurd (cc)
-from_either Second f c counts a b x is left = absurd (cc)
-
 module _ (a b a' b' : DiskState) (known : List ℕ → Type 0) (a_rests : IsAtRest a) (b_rests : IsAtRest b) (a_left : known a.content) (b_left : known b.content)
     (mixed : (x y w z : List ℕ) → known x → known y → known w → IsMixed x y w z → known z) (leaves : LeavesBoth a b a' b') where
   of_first : (x : List ℕ) → MayLeave a x → known x

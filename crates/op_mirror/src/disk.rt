@@ -3,8 +3,9 @@ use crate::mirror::Mirror;
 use crate::trying::{try_cut, try_len, try_read, try_sync, try_write};
 use op_outside::{Disk, DiskFail};
 
-/// A write, a cut and a sync are made on the first copy and then on the second. A read and the length come from the first
-/// copy that lives. A copy in which a call fails is out, and the call goes on with the other one.
+/// A write, a cut and a sync are made on the first copy and then on the second. A read and the length come
+/// from the first copy that lives. A copy in which a call fails is out, and the call goes on with the other
+/// one.
 impl<D: Disk> Disk for Mirror<D> {
     ghost use Rattle.std.specs.Prelude.{◌≡◌, ◌≤◌, ◌+◌, length, IfOk, OnOk};
     ghost use Rattle.op_outside.specs.Disks.{disk_end, Does, Costs, IsLengthOf, IsSound, IsSynced, Reads, Pends, Settles};

@@ -87,8 +87,8 @@ impl<D: Disk> Mirror<D> {
         (first, second, halves)
     }
 
-    /// The mirror of these copies, of which nothing else is read and nothing else is pending since it was taken apart, and
-    /// whose counts are no less.
+    /// The mirror of these copies, of which nothing else is read and nothing else is pending since it was
+    /// taken apart, and whose counts are no less.
     pub fn together(first: D, second: D, halves: Halves) -> Mirror<D>
         requires alike { AreAlike halves.gone (D.state first) (D.state second) }
         requires marked { AreMarkedBy halves (D.state first) (D.state second) }

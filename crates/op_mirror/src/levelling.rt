@@ -13,8 +13,8 @@ use crate::level::Level;
 use crate::runs::write_runs;
 use op_outside::Disk;
 
-/// Makes the second copy equal to the first one in a piece from byte offset `at` on, of which it has as many bytes as
-/// `theirs` takes.
+/// Makes the second copy equal to the first one in a piece from byte offset `at` on, of which it has as many
+/// bytes as `theirs` takes.
 fn level_piece<D: Disk>(
     first: &mut D,
     second: &mut D,
@@ -71,7 +71,8 @@ fn level_piece<D: Disk>(
 /// How many bytes of both copies are compared at a time.
 pub(crate) const PIECE: usize = 65536;
 
-/// Makes the second copy, of this length, equal to the first one up to the first one's length, piece by piece.
+/// Makes the second copy, of this length, equal to the first one up to the first one's length, piece by
+/// piece.
 fn level<D: Disk>(
     first: &mut D,
     second: &mut D,

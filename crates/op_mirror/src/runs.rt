@@ -30,8 +30,8 @@ fn write_run<D: Disk>(disk: &mut D, at: u64, want: &[u8], start: usize, end: usi
     }
 }
 
-/// Writes each longest run of the bytes, from byte offset `at` on, that differs from what the disk has there, or that it
-/// lacks; whether all of that was done.
+/// Writes each longest run of the bytes, from byte offset `at` on, that differs from what the disk has there,
+/// or that it lacks; whether all of that was done.
 pub(crate) fn write_runs<D: Disk>(disk: &mut D, at: u64, want: &[u8], have: &[u8]) -> bool
     requires shorter { length have.now ≤ length want.now }
     requires fits { at + length want.now ≤ disk_end }

@@ -47,8 +47,8 @@ fn put_msg(out: &mut Vec<u8>, m: &Msg) -> Result<(), NoMemory>
     put_body(out, &m.body)
 }
 
-/// The sender, the addressee and the message that these bytes are. They are `Bad` at the byte offset of the first field, from
-/// the left, that is short or out of range, or else of the first byte that is left over.
+/// The sender, the addressee and the message that these bytes are. They are `Bad` at the byte offset of the
+/// first field, from the left, that is short or out of range, or else of the first byte that is left over.
 pub fn take(alloc: Global, bytes: &[u8]) -> Result<(Pid, Pid, Msg), TakeFail>
     // What is taken is encoded so.
     ensures found { IfOk result (λ x. addressed.fits x × (bytes.now ≡ addressed.text x)) }

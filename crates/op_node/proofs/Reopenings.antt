@@ -19,7 +19,7 @@ use Rattle.op_store.proofs.UniquePairs.{one_stored, nothing_or_stored, stored_or
 use Rattle.op_server.specs.Seats.{kind_of, me_of, state_of}
 use Rattle.op_server.specs.declared.seat.Seat.{Seat}
 use Rattle.op_node.specs.Nodes.{node_of}
-use Rattle.op_node.specs.Openings.{RefusesNode, taken_as}
+use Rattle.op_node.specs.Openings.{RefusesNode, kept_from}
 use Rattle.op_node.specs.Reopenings.{IsOneOf, StoreOneOf, count_kept, reopening_sends, Reopens, RefusesAgain, FindsOneOf}
 use Rattle.op_node.specs.Steps.{Steps}
 use Rattle.op_node.specs.declared.node.Node.{Node}
@@ -161,13 +161,13 @@ module _ {D : Type 0} (state : D → DiskState) where
 
   -- it is opened again
   pub reopens : (old new : Node D) (kept d : Durable) (is_new : Bool) (sends : List (ℕ × Msg)) → kept ≡ (node_of old).state.durable → Opened state kept (disks_of state old.store) new.store d is_new → DurableInRange d
-      → (kind_of new.seat ≡ kind_of old.seat) × (me_of new.seat ≡ me_of old.seat) → state_of new.seat ≡ state_after_reopening (me_of old.seat) (state_of old.seat) (taken_as (kind_of old.seat) (me_of old.seat) d) → new.failed ≡ None
+      → (kind_of new.seat ≡ kind_of old.seat) × (me_of new.seat ≡ me_of old.seat) → state_of new.seat ≡ state_after_reopening (me_of old.seat) (state_of old.seat) (kept_from (kind_of old.seat) (me_of old.seat) d) → new.failed ≡ None
       → sends ≡ reopening_sends d (node_of old) → Reopens state d is_new old new sends
   reopens old new kept d is_new sends is opened range who state_is runs sends_are =
       record {
         opened = subst (λ (k : Durable). Opened state k (disks_of state old.store) new.store d is_new) is opened;
         range = range;
-        node = node_same (kind_of new.seat) (kind_of old.seat) (me_of new.seat) (me_of old.seat) (state_of new.seat) (state_after_reopening (me_of old.seat) (state_of old.seat) (taken_as (kind_of old.seat) (me_of old.seat) d)) new.failed None who.0 who.1 state_is runs;
+        node = node_same (kind_of new.seat) (kind_of old.seat) (me_of new.seat) (me_of old.seat) (state_of new.seat) (state_after_reopening (me_of old.seat) (state_of old.seat) (kept_from (kind_of old.seat) (me_of old.seat) d)) new.failed None who.0 who.1 state_is runs;
         sends_are = sends_are;
       }
 

@@ -12,7 +12,7 @@ use Rattle.op_store.specs.Openings.{Opened, refused_by}
 use Rattle.op_store.specs.declared.fail.StoreFail.{StoreFail}
 use Rattle.op_store.specs.declared.fail.StoreFail.TheVariants.{DiskFault, Damaged, NewerVersion, NoMemory}
 use Rattle.op_node.specs.Nodes.{NodeState, node_of}
-use Rattle.op_node.specs.Openings.{taken_as, RefusesNode}
+use Rattle.op_node.specs.Openings.{kept_from, RefusesNode}
 use Rattle.op_node.specs.declared.node.Node.{Node}
 
 -- ---- what the disks of a node store that failed
@@ -32,17 +32,17 @@ pub record StoreOneOf (before after : Durable) (disks : Disks) : Type 0 where
 
 -- what it sends that is opened again with what it takes of this durable state
 abbrev pub reopening_sends : Durable → NodeState → List (ℕ × Msg)
-reopening_sends d n = sends_as n.kind n.me (taken_as n.kind n.me d)
+reopening_sends d n = sends_as n.kind n.me (kept_from n.kind n.me d)
 
 -- the node, opened again with what it takes of this durable state: its clients wait still
 abbrev pub reopened_with : Durable → NodeState → NodeState
 reopened_with d n =
-    record n { state = state_after_reopening n.me n.state (taken_as n.kind n.me d); failed = None }
+    record n { state = state_after_reopening n.me n.state (kept_from n.kind n.me d); failed = None }
 
 -- the same as after a restart: nobody waits
 abbrev pub restarted_with : Durable → NodeState → NodeState
 restarted_with d n =
-    record n { state = state_after_restart n.me (taken_as n.kind n.me d); failed = None }
+    record n { state = state_after_restart n.me (kept_from n.kind n.me d); failed = None }
 
 -- The count of faults that a node keeps whose opening is refused: the new one, where a call of a disk failed.
 abbrev pub count_kept : Option ℕ → StoreFail → Option ℕ

@@ -37,8 +37,8 @@ fn framed_copy(alloc: Global, durable: &Durable, batch: &Batch) -> Result<Framed
     framed_whole(alloc, &after)
 }
 
-/// Lays the durable state after a batch out as the record of a checkpoint. Both are left as they are, and where the batch
-/// only appends and decides, neither is copied.
+/// Lays the durable state after a batch out as the record of a checkpoint. Both are left as they are, and
+/// where the batch only appends and decides, neither is copied.
 pub fn framed_after(alloc: Global, durable: &Durable, batch: &Batch) -> Result<Framed, NoMemory>
     requires applies { Applies (with_room no_needs durable.now) batch.now }
     requires range { DurableInRange (with_room no_needs durable.now) }

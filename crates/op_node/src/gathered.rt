@@ -18,8 +18,8 @@ use op_store::{Store, framed_whole};
 use op_types::Durable;
 use std::alloc::Global;
 
-/// Stores changes that led to this durable state, laid out as one record. Where the chosen area becomes too long a checkpoint
-/// follows, if there is memory for it.
+/// Stores changes that led to this durable state, laid out as one record. Where the chosen area becomes too
+/// long a checkpoint follows, if there is memory for it.
 pub fn commit_all<D: Disk>(
     alloc: Global,
     store: &mut Store<D>,

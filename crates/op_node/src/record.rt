@@ -41,8 +41,8 @@ impl Record {
         })
     }
 
-    /// Adds the changes of a step. It takes all the memory that storing them needs. Where there is none, or where they would
-    /// be more than a record has, nothing is added.
+    /// Adds the changes of a step. It takes all the memory that storing them needs. Where there is none, or
+    /// where they would be more than a record has, nothing is added.
     pub(crate) fn add(&mut self, batch: &Batch) -> Result<(), NoMemory>
         requires { BatchInRange batch.now }
         ensures added { (changes : List Change) → LaysOut changes self.old →

@@ -58,8 +58,8 @@ pub enum Took {
 #[derive(Clone, Copy, Debug, PartialEq, Eq)]
 pub struct NetFail;
 
-/// Connections to other programs. An error comes only where the count of faults rises in the call. That a connection ends is
-/// no fault.
+/// Connections to other programs. An error comes only where the count of faults rises in the call. That a
+/// connection ends is no fault.
 pub trait Net {
     /// Its calls with their answers, where it tells them: a real net tells nothing.
     ghost told: { Self → Option (List Call) };

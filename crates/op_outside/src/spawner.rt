@@ -8,7 +8,8 @@ ghost use Rattle.op_outside.specs.Spawners.{ChildCall, Started, EndedWith};
 #[derive(Clone, Copy, Debug, PartialEq, Eq)]
 pub struct ChildFail;
 
-/// Programs that run beside this one, each under an id. An error comes only where the count of faults rises in the call.
+/// Programs that run beside this one, each under an id. An error comes only where the count of faults rises
+/// in the call.
 pub trait Spawner {
     /// Its calls with their answers, where it tells them: a real spawner tells nothing.
     ghost told: { Self → Option (List ChildCall) };
@@ -25,8 +26,8 @@ pub trait Spawner {
         ensures tells { Grows (told self.old) (Started id input.now (result_ok result) ∷ []) (told self.new) }
         ensures cause { FailsOnlyOnFault (fault_count self.old) (fault_count self.new) result };
 
-    /// Waits until the program of this id has ended, and gives its exit status. It fails where that id wasn't started, or its
-    /// end was waited for.
+    /// Waits until the program of this id has ended, and gives its exit status. It fails where that id wasn't
+    /// started, or its end was waited for.
     fn end(&mut self, id: u32) -> Result<u8, ChildFail>
         ensures tells { Grows (told self.old) (EndedWith id (result_ok result) ∷ []) (told self.new) }
         ensures cause { FailsOnlyOnFault (fault_count self.old) (fault_count self.new) result };

@@ -1,23 +1,15 @@
 -- Entries that were written over others, of which the last one lies apart.
-use Rattle.std.proofs.Common.{◌≡◌, true, false, cond, refl, sym, ap, ◌∙◌, List, [], ◌∷◌, Bor, map}
+use Rattle.std.proofs.Common.{◌≡◌, true, false, cond, refl, sym, ap, ◌∙◌, List}
 use Rattle.std.specs.Prelude.{Option, Some, None}
-use Rattle.std.specs.List.{AllByRecursion}
 use Rattle.std.specs.declared.cmp.Ordering.{Ordering}
-use Rattle.std.specs.declared.cmp.Ordering.TheVariants.{Less}
 use Rattle.std.specs.Cmp.{IsTotalOrder}
 use Rattle.std.specs.List.Sorted.{IsStrictlySortedBy}
 use Rattle.std.specs.Ordering.{is_eq}
 use Rattle.std.specs.Map.{keys_of, lookup}
 use Rattle.std.specs.BTreeMap.{insert_entry, is_at}
-use Rattle.std.specs.Map.Iter.{deref_pair}
 use Rattle.op_overlay.specs.Entries.{entries_over}
 use Rattle.op_overlay.specs.Overlays.{with_last, IsExact}
 use Rattle.op_overlay.proofs.Entries.{rises-insert_entry, find-insert_entry, over-insert_entry}
-
--- none lies apart
-pub none_last : {K X : Type 0} (R : K → K → Ordering) (es : List (K × X)) (last : Option (K × X)) → ((e : K × X) → last ≡ Some e → ⊥) → with_last R es last ≡ es
-none_last R es None none = refl
-none_last R es (Some e) none = absurd (none e refl)
 
 module _ {K X : Type 0} {R : K → K → Ordering} (o : IsTotalOrder R) where
   abbrev Rises : List (K × X) → Type 0
@@ -49,14 +41,3 @@ module _ {K X : Type 0} {R : K → K → Ordering} (o : IsTotalOrder R) where
       → entries_over R n (with_last R rest last) ≡ entries_over R m (with_last R other last)
   moved-with_last exact m n other rest last a b c d h =
       over-with_last exact n rest last b d ∙ ap (λ es. with_last R es last) h ∙ sym (over-with_last exact m other last a c)
-
-module _ {K X : Type 0} (R : K → K → Ordering) where
-  above-shown : (k : Bor K) (es : List (Bor K × Bor X)) → AllByRecursion (λ y. R k.now y.now ≡ Less) (keys_of es) → AllByRecursion (λ y. R k.now y ≡ Less) (keys_of (map deref_pair es))
-  above-shown k [] a = tt
-  above-shown k (e ∷ es) a = (a.0, above-shown k es a.1)
-
-  -- references whose keys rise refer to entries whose keys rise
-  pub rises-shown : (es : List (Bor K × Bor X)) → IsStrictlySortedBy (λ x y. R x.now y.now) (keys_of es) → IsStrictlySortedBy R (keys_of (map deref_pair es))
-  unfolding IsStrictlySortedBy
-  rises-shown [] s = tt
-  rises-shown (e ∷ es) s = (above-shown e.0 es s.0, rises-shown es s.1)

@@ -63,9 +63,6 @@ module _ (P : Entry → Type 0) where
   front_v : (s : Held) (at : ℕ) → EachHeld (λ i e. P e) s → Each (front_from s at)
   front_v s at hs e i = let k = in_get e (front_from s at) i in front_each (λ i e. P e) s (length s) at hs k.0 e k.2
 
-  each_one : (x : Entry) → P x → Each (x ∷ [])
-  each_one x h = single P x h
-
   -- every entry that a node which prepares has passes
   pub record PrepV (r : PreparingState) : Type 0 where
     pub kept : (q : ℕ) (pm : Promised) → r.kept q ≡ Some pm → Each pm.rest

@@ -6,7 +6,8 @@ use op_types::{Ballot, Body, Entries, PromisedRun, SyncRun};
 /// What a message tells beside its entries, where these are too long for one.
 #[derive(Clone, Copy)]
 pub enum Head {
-    /// A promise: the ballot, and the log's accepted round, its length, what is decided, and where the entries begin.
+    /// A promise: the ballot, and the log's accepted round, its length, what is decided, and where the
+    /// entries begin.
     Promise(Ballot, Ballot, u64, u64, u64),
     /// An accept sync: the ballot, and where the entries begin and end.
     AcceptSync(Ballot, u64, u64),

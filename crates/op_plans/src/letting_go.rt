@@ -1,5 +1,5 @@
-//! How large values are let go: each by one call. Where a function lets one go by itself, its proof has the drop of each part of it
-//! anew, at each exit.
+//! How large values are let go: each by one call. Where a function lets one go by itself, its proof has the
+//! drop of each part of it anew, at each exit.
 ghost use Rattle.std.specs.Prelude.{◌≡◌};
 
 use op_types::NoMemory;

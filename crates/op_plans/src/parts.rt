@@ -35,7 +35,8 @@ impl Member<'_> {
         self.send_runs(sends, to, head, start, entries)
     }
 
-    /// Adds what brings a promise to a node, which tells the log from a position on: itself, or its parts where that is long.
+    /// Adds what brings a promise to a node, which tells the log from a position on: itself, or its parts
+    /// where that is long.
     pub fn send_promise(
         &self,
         sends: &mut Sends,

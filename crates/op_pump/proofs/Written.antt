@@ -1,6 +1,5 @@
 -- Writes to one connection, and to the next.
-use Rattle.std.proofs.Common.{◌≡◌, ◌≢◌, ◌<◌, ◌≤◌, [], ℕ, List, length, true, ◌==◌, if◌then◌else◌, ◌^◌, IfSome, Option, Some, None, Result, Err, refl, sym, ◌∙◌, ap, subst, drop, length-drop, ◌-◌, zero, suc, inl, inr, arith}
-use Rattle.std.proofs.lemmas.Bool.{cases_Bool, eq-eqb, eqb-true}
+use Rattle.std.proofs.Common.{◌≡◌, ◌<◌, ◌≤◌, [], ℕ, List, length, ◌==◌, if◌then◌else◌, ◌^◌, IfSome, Option, Some, None, Result, Err, refl, sym, ◌∙◌, ap, subst, drop, length-drop, ◌-◌, zero, suc, inl, inr, arith}
 use Rattle.op_outside.specs.Seen.{NetSeen}
 use Rattle.op_serving.specs.Cores.{Standing}
 use Rattle.op_serving.specs.State.{Loop, find}
@@ -15,20 +14,6 @@ use Rattle.op_pump.specs.Moments.{moment, reached, Goes, Waits, Lessens, IsNext}
 abbrev pub if_same : Option ℕ → ℕ → ℕ → ℕ
 if_same None c n = 0
 if_same (Some d) c n = if d == c then n else 0
-
-pub smaller : (next : Option ℕ) (c n m : ℕ) → 0 < m → (next ≡ Some c → n < m) → if_same next c n < m
-smaller None c n m h less = h
-smaller (Some d) c n m h less = elim (cases_Bool (d == c)) [
-  | inl e ↦ rw e (less (ap Some (eqb-true d c e)))
-  | inr e ↦ rw e h
-]
-
-pub same_so : (next : Option ℕ) (c n : ℕ) → next ≡ Some c → if_same next c n ≡ n
-same_so next c n e = ap (λ x. if_same x c n) e ∙ (let own : (c == c) ≡ true = eq-eqb c c refl in rw own refl)
-
-pub less_hello : (c : ℕ) (s t : Loop) → 0 < hello_left c s → Lessens c s t → hello_left c t < hello_left c s
-less_hello c s t h (inl l) = l
-less_hello c s t h (inr l) = absurd (omega (arith, h, l.1))
 
 pub less_waits : (c : ℕ) (s t : Loop) → hello_left c s ≡ 0 → Lessens c s t
     → (hello_left c t ≡ 0) × (length (queue_in (find c t.sessions)) < length (queue_in (find c s.sessions)))
@@ -68,11 +53,6 @@ pub waits_of : (low : ℕ) (s : Loop) (next : Option ℕ) → IfSome next (λ d.
 waits_of low s None a b = tt
 waits_of low s (Some d) a b = (a, b)
 
-pub waits_behind : (low : ℕ) (s : Loop) (next : Option ℕ) → IfSome next (λ d. low < d) → IfSome next (λ d. 0 < length (queue_in (find d s.sessions)))
-    → Waits low s next
-waits_behind low s None a b = tt
-waits_behind low s (Some d) a b = (omega (arith, a), b)
-
 pub waits_low : (c : ℕ) (s : Loop) (next : Option ℕ) → Waits c s next → Waits 0 s next
 waits_low c s None h = tt
 waits_low c s (Some d) h = (omega arith, h.1)
@@ -81,7 +61,3 @@ waits_low c s (Some d) h = (omega arith, h.1)
 abbrev pub behind_measure : Option ℕ → ℕ
 behind_measure None = 0
 behind_measure (Some c) = 2 ^ 64 - c
-
-pub rises : (c : ℕ) (s : Loop) (next : Option ℕ) → c < 2 ^ 64 → Waits c s next → next ≢ Some c → behind_measure next < 2 ^ 64 - c
-rises c s None few h other = omega (arith, few)
-rises c s (Some d) few h other = let apart : d ≢ c = λ e. other (ap Some e) in omega (arith, few, h.0, apart)

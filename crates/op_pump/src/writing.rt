@@ -74,8 +74,8 @@ impl<K: Core> Pump<K> {
         Ok(next)
     }
 
-    /// Writes what waits for a connection, if it takes that, where no hello is left. Gives the next connection
-    /// to which bytes are to be written.
+    /// Writes what waits for a connection, if it takes that, where no hello is left. Gives the next
+    /// connection to which bytes are to be written.
     fn pour_out<N: Net>(&mut self, net: &mut N, conn: Conn) -> Result<Option<Conn>, ServeEnd>
         requires idle { IsResting self.old.driver.loop }
         requires at { self.old.driver.loop.place.at ≢ 0 }

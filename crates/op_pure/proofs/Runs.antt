@@ -4,7 +4,7 @@ use Rattle.std.proofs.lemmas.List.Elements.{All-nil, All-cons, All-head, All-tai
 use Rattle.op_types.specs.Ranges.{IsMember, MembersInRange}
 use Rattle.op_runs.specs.declared.events.Event.{Event}
 use Rattle.op_runs.specs.Possible.{Named, ObserversInRange, is_possible, is_possible_in, most_proposals, named_ids, proposals_in, proposals_of, SparesInRange, WhatInRange}
-use Rattle.op_runs.specs.Schedules.{beginning, begun, started_world}
+use Rattle.op_runs.specs.Schedules.{beginning, observers_begun, started_world}
 use Rattle.op_runs.specs.World.{World, Sent, Fate, Deed, done_event, first_world, world_after, world_with, run_of}
 use Rattle.op_runs.specs.World as runs
 use Rattle.op_bounds.specs.Laws.{WhatNames}
@@ -29,7 +29,7 @@ use Rattle.op_pure.specs.Nodes.{pure_nodes}
 
 -- what a run of the happenings that are left says of the whole run, where so many came before, and so much was proposed
 pub record Continues (members spares observers : List ℕ) (w : World) (left all : List Happening) (index proposed : ℕ) : Type 0 where
-  pub ran : run_of w (happenings_of left) ≡ run_of (first_world members spares) (begun observers ++ happenings_of all)
+  pub ran : run_of w (happenings_of left) ≡ run_of (first_world members spares) (observers_begun observers ++ happenings_of all)
   pub possible : CanHappenFrom (named_ids members spares observers) w (happenings_of left) → CanHappen members spares observers (happenings_of all)
   pub bad : (i : ℕ) → IsFirstBadFrom (named_ids members spares observers) w (happenings_of left) i → IsFirstBad members spares observers (happenings_of all) (index + i)
   pub range : All (λ h. WhatInRange h.event.what) left
@@ -40,7 +40,7 @@ pub record Continues (members spares observers : List ℕ) (w : World) (left all
 pub continues_first : (members spares observers : List ℕ) (left all : List Happening) (proposed : ℕ) → left ≡ all → All (λ h. WhatInRange h.event.what) all → proposed ≡ 0 → Continues members spares observers (started_world members spares observers) left all 0 proposed
 continues_first members spares observers left all proposed same range none =
     record {
-      ran = ap (λ (hs : List Happening). run_of (started_world members spares observers) (happenings_of hs)) same ∙ sym (run_append (first_world members spares) (begun observers) (happenings_of all));
+      ran = ap (λ (hs : List Happening). run_of (started_world members spares observers) (happenings_of hs)) same ∙ sym (run_append (first_world members spares) (observers_begun observers) (happenings_of all));
       possible = λ can. subst (λ (hs : List Happening). CanHappen members spares observers (happenings_of hs)) same can;
       bad = λ i bad. let whole : i ≡ 0 + i = omega arith in
           subst (λ (j : ℕ). IsFirstBad members spares observers (happenings_of all) j) whole (subst (λ (hs : List Happening). IsFirstBad members spares observers (happenings_of hs) i) same bad);
@@ -82,7 +82,7 @@ bad_here members spares observers w left rest all h index proposed c first canno
 
 -- ---- the end
 
-pub ran_all : (members spares observers : List ℕ) (w : World) (left all : List Happening) (index proposed : ℕ) → Continues members spares observers w left all index proposed → left ≡ [] → w ≡ run_of (first_world members spares) (begun observers ++ happenings_of all)
+pub ran_all : (members spares observers : List ℕ) (w : World) (left all : List Happening) (index proposed : ℕ) → Continues members spares observers w left all index proposed → left ≡ [] → w ≡ run_of (first_world members spares) (observers_begun observers ++ happenings_of all)
 ran_all members spares observers w left all index proposed c none = ap (λ (hs : List Happening). run_of w (happenings_of hs)) (sym none) ∙ c.ran
 
 all_in_range : (hs : List Happening) → All (λ h. WhatInRange h.event.what) hs → All (λ h. WhatInRange h.event.what) (happenings_of hs)
@@ -97,9 +97,9 @@ all_name ids w (h ∷ hs) can =
     All-cons (λ (g : runs.Happening). WhatNames (IsMember ids.voters) (IsMember ids.servers) g.event.what) h hs (names_of ids (length w.messages) h.event.what can.0) (all_name ids (world_after w h) hs can.1)
 
 -- no beginning proposes a stop-sign
-begun_quiet : (observers : List ℕ) → ProposeNoStop (begun observers)
+begun_quiet : (observers : List ℕ) → ProposeNoStop (observers_begun observers)
 begun_quiet [] = All-nil (λ (h : runs.Happening). IsNoStop h.event.what)
-begun_quiet (q ∷ observers) = All-cons (λ (h : runs.Happening). IsNoStop h.event.what) (done_event (beginning q)) (begun observers) tt (begun_quiet observers)
+begun_quiet (q ∷ observers) = All-cons (λ (h : runs.Happening). IsNoStop h.event.what) (done_event (beginning q)) (observers_begun observers) tt (begun_quiet observers)
 
 pub keeps_the_laws : (members spares observers : List ℕ) → MembersInRange members → SparesInRange members spares → ObserversInRange members spares observers → (w : World) (left all : List Happening) (index proposed : ℕ)
     → All (λ h. WhatInRange h.event.what) all → Continues members spares observers w left all index proposed → left ≡ [] → KeepsTheLaws members spares observers (happenings_of all)
@@ -114,10 +114,10 @@ keeps_the_laws members spares observers m s o w left all index proposed range c 
     } in
     record {
       possible = can;
-      laws = every.keeps_the_laws members spares (begun observers ++ happenings_of all) (behind_in_range members spares observers m s o (happenings_of all) fit);
+      laws = every.keeps_the_laws members spares (observers_begun observers ++ happenings_of all) (behind_in_range members spares observers m s o (happenings_of all) fit);
       owns = behind_owns members spares observers m s o (happenings_of all) fit;
-      reaches = λ quiet. every_lockstep_reaches members spares m (begun observers ++ happenings_of all)
-          (All-append (λ (h : runs.Happening). IsNoStop h.event.what) (begun observers) (happenings_of all) (begun_quiet observers) quiet);
+      reaches = λ quiet. every_lockstep_reaches members spares m (observers_begun observers ++ happenings_of all)
+          (All-append (λ (h : runs.Happening). IsNoStop h.event.what) (observers_begun observers) (happenings_of all) (begun_quiet observers) quiet);
     }
 
 -- whether an event can come, as the code's world tells it

@@ -6,10 +6,11 @@ use op_types::Seq;
 pub enum Fate {
     /// It is done.
     Done,
-    /// The node stops inside it: nothing is given out, and the next opening finds what was stored before it or after it.
+    /// The node stops inside it: nothing is given out, and the next opening finds what was stored before it
+    /// or after it.
     Stopped,
-    /// A disk fails inside it, and this is the count of its disks' faults then: the node has failed, and the next opening finds what
-    /// was stored before it or after it.
+    /// A disk fails inside it, and this is the count of its disks' faults then: the node has failed, and the
+    /// next opening finds what was stored before it or after it.
     Faulted(u64),
 }
 
@@ -18,7 +19,8 @@ pub enum Fate {
 pub struct Foretold {
     /// What becomes of its step.
     pub fate: Fate,
-    /// Whether an opening finds the state after the step in which the node stopped or failed, or the one before.
+    /// Whether an opening finds the state after the step in which the node stopped or failed, or the one
+    /// before.
     pub finds_after: bool,
 }
 
@@ -29,7 +31,8 @@ pub struct Happening {
     pub event: Event,
     /// What becomes of its step.
     pub fate: Fate,
-    /// Whether an opening finds the state after the step in which the node stopped or failed, or the one before.
+    /// Whether an opening finds the state after the step in which the node stopped or failed, or the one
+    /// before.
     pub finds_after: bool,
 }
 

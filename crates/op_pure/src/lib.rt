@@ -1,4 +1,5 @@
-//! The plain program of the definition: members, spares and observers without disks, whose happenings' fates are given.
+//! The plain program of the definition: members, spares and observers without disks, whose happenings' fates
+//! are given.
 #![tactic(auto)]
 
 mod happening;

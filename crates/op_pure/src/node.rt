@@ -39,10 +39,11 @@ pub struct PureNode {
 pub enum Status {
     /// It is up.
     Up(Seat),
-    /// It is down, and has stored this. The step in which it stopped or failed was to store this batch, which is empty where it
-    /// stopped between two steps.
+    /// It is down, and has stored this. The step in which it stopped or failed was to store this batch, which
+    /// is empty where it stopped between two steps.
     Down(Durable, Batch),
-    /// A disk of it failed: it keeps what it had before, the count of its disks' faults, and the batch that the step was to store.
+    /// A disk of it failed: it keeps what it had before, the count of its disks' faults, and the batch that
+    /// the step was to store.
     Failed(Seat, u64, Batch),
 }
 
@@ -66,7 +67,8 @@ impl op_executions::Server for PureNode {
         })
     }
 
-    /// An opening finds what a step was to store in which the node stopped or failed, or what was stored before it.
+    /// An opening finds what a step was to store in which the node stopped or failed, or what was stored
+    /// before it.
     fn happens(
         &mut self,
         alloc: Global,
@@ -104,8 +106,8 @@ impl PureNode {
         }
     }
 
-    /// A step of this fate, if it is up. Where the node stops in it, what it was to store is kept, and all memory is lost; where a
-    /// disk fails, it keeps what it has, and what is proposed is refused.
+    /// A step of this fate, if it is up. Where the node stops in it, what it was to store is kept, and all
+    /// memory is lost; where a disk fails, it keeps what it has, and what is proposed is refused.
     fn step(&mut self, alloc: Global, input: Input, fate: Fate, line: u64) -> Result<Done, NoMemory>
         requires { CanDo pure_nodes self.old (runs.Steps input) }
         ensures { IfOk result (λ r. (finds_after : Bool) → HasDone self.old (runs.Steps input)
@@ -131,7 +133,8 @@ impl PureNode {
         }
     }
 
-    /// What comes at a node that isn't up does nothing; one that has failed refuses what is proposed, and to trim.
+    /// What comes at a node that isn't up does nothing; one that has failed refuses what is proposed, and to
+    /// trim.
     fn refuse(&self, alloc: Global, input: &Input, line: u64) -> Result<Done, NoMemory>
         requires kept { pure_nodes.is_kept self.now }
         requires down { IsUp self.now → ⊥ }
@@ -183,7 +186,8 @@ impl PureNode {
     }
 }
 
-/// What a node has stored at its start: a member of the first configuration has its part, and so has an observer.
+/// What a node has stored at its start: a member of the first configuration has its part, and so has an
+/// observer.
 fn durable_at_start(
     alloc: Global,
     pid: Pid,
@@ -248,7 +252,8 @@ fn to_store(seat: &mut Seat, input: Input) -> Result<Batch, NoMemory>
     Ok(plan.into_batch())
 }
 
-/// What an input is answered where disks have failed so often: proposals, wishes to trim and reads are refused.
+/// What an input is answered where disks have failed so often: proposals, wishes to trim and reads are
+/// refused.
 fn refusal(count: u64, input: &Input) -> Option<Outcome>
     ensures { result ≡ runs.failed_outcome count input.now }
 {

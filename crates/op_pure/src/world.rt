@@ -1,7 +1,7 @@
 ghost use Rattle.std.specs.Prelude.{◌≡◌, ◌++◌, All, IfOk};
 ghost use Rattle.op_types.specs.Ranges.{MembersInRange};
 ghost use Rattle.op_runs.specs.Possible.{ObserversInRange, SparesInRange, WhatInRange};
-ghost use Rattle.op_runs.specs.Schedules.{begun};
+ghost use Rattle.op_runs.specs.Schedules.{observers_begun};
 ghost use Rattle.op_runs.specs.World as runs;
 ghost use Rattle.op_executions.specs.Failing.{IfBadEvent};
 ghost use Rattle.op_pure.specs.Happenings.{happenings_of, IsFirstBad};
@@ -16,7 +16,8 @@ use op_types::Members;
 use std::alloc::Global;
 use std::marker::Model;
 
-/// Members, spares and observers without disks, all messages that were sent, and what the happenings gave to be reported.
+/// Members, spares and observers without disks, all messages that were sent, and what the happenings gave to
+/// be reported.
 #[derive(Drop)]
 pub struct PureWorld {
     world: ServerWorld<PureNode>,
@@ -35,8 +36,9 @@ impl Model for PureWorld {
 }
 
 impl PureWorld {
-    /// Runs these happenings at these members, spares and observers, from their start on. It is refused exactly where an event
-    /// names a server that is none of these, in a stop-sign an observer, or a message that wasn't sent: the first such event is told.
+    /// Runs these happenings at these members, spares and observers, from their start on. It is refused
+    /// exactly where an event names a server that is none of these, in a stop-sign an observer, or a message
+    /// that wasn't sent: the first such event is told.
     pub fn run(
         alloc: Global,
         members: Members,
@@ -50,7 +52,7 @@ impl PureWorld {
         requires happenings { All (λ h. WhatInRange h.event.what) happenings }
         ensures world { IfOk result (λ w.
             Shows w (runs.run_of (runs.first_world members spares)
-            (begun observers ++ happenings_of happenings))) }
+            (observers_begun observers ++ happenings_of happenings))) }
         ensures laws { IfOk result (λ _. KeepsTheLaws members spares observers (happenings_of happenings)) }
         ensures bad { IfBadEvent result (IsFirstBad members spares observers (happenings_of happenings)) }
     {

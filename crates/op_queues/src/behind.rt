@@ -11,8 +11,8 @@ use std::alloc::Global;
 use std::collections::{BTreeMap, VecDeque};
 use std::marker::Model;
 
-/// Messages for which there was no room, each with its connection, in order. Contracts see them as the frames that
-/// they become.
+/// Messages for which there was no room, each with its connection, in order. Contracts see them as the frames
+/// that they become.
 #[derive(Drop)]
 pub struct Behind {
     messages: VecDeque<(Conn, Unsent)>,

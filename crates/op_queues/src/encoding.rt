@@ -45,8 +45,8 @@ pub fn fits_peer(alloc: Global, from: Pid, to: Pid, m: &Msg) -> Result<bool, NoM
     Ok(body.len() <= MOST_PEER_BODY)
 }
 
-/// Whether the entries of a message, or its bytes of a base, take no more bytes than a part of a long message: then its
-/// peer takes it. This encodes nothing.
+/// Whether the entries of a message, or its bytes of a base, take no more bytes than a part of a long
+/// message: then its peer takes it. This encodes nothing.
 pub fn is_short(from: Pid, to: Pid, m: &Msg) -> bool
     requires from { IsPid from }
     requires to { IsPid to }
@@ -58,7 +58,8 @@ pub fn is_short(from: Pid, to: Pid, m: &Msg) -> bool
     carries_part(&m.body)
 }
 
-/// Whether the entries that a message carries, or its bytes of a base, take no more bytes than a part of a long message.
+/// Whether the entries that a message carries, or its bytes of a base, take no more bytes than a part of a
+/// long message.
 fn carries_part(body: &Body) -> bool
     ensures { result ≡ nat_le (carried_size body.now) most_part_bytes }
 {

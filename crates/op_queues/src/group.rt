@@ -13,8 +13,8 @@ use op_types::{Input, Msg, Pid};
 use std::collections::VecDeque;
 use std::marker::Model;
 
-/// What was gathered and is given together, as inputs, each with the connections whose frames it was: first the
-/// messages, and then the commands as one input.
+/// What was gathered and is given together, as inputs, each with the connections whose frames it was: first
+/// the messages, and then the commands as one input.
 #[derive(Drop)]
 pub struct Group {
     gathered: Gathered,
@@ -38,8 +38,8 @@ impl Group {
         Group { gathered }
     }
 
-    /// The inputs in order, no results with room for one of each, and what clients asked for with the last input.
-    /// This takes no memory.
+    /// The inputs in order, no results with room for one of each, and what clients asked for with the last
+    /// input. This takes no memory.
     pub fn into_parts(self) -> (VecDeque<Input>, Results, Option<Wanted>)
         ensures inputs { result.0.items ≡ map (λ b. b.1) self }
         ensures none { result.1.items ≡ [] }

@@ -1,5 +1,5 @@
-//! The sessions of a node that is served: what waits for each, who asked for what, what was read and is to be given
-//! together, and what was lost for want of memory.
+//! The sessions of a node that is served: what waits for each, who asked for what, what was read and is to be
+//! given together, and what was lost for want of memory.
 #![tactic(auto)]
 
 mod asked;

@@ -18,8 +18,8 @@ use op_types::{NoMemory, Pid};
 use std::alloc::Global;
 use std::collections::BTreeMap;
 
-/// Adds a frame to what waits for a connection. Gives whether more bytes wait then than may. Without memory nothing
-/// changes.
+/// Adds a frame to what waits for a connection. Gives whether more bytes wait then than may. Without memory
+/// nothing changes.
 #[tactic(auto, using(std::proofs::lemmas::Map::Steps::set_value_same, crate::proofs::InRange::set_session, crate::proofs::InRange::found_in_range, crate::proofs::Filling::set_thin, crate::proofs::Filling::not_overfull))]
 pub fn add<E: Encode>(
     sessions: &mut BTreeMap<Conn, Session>,

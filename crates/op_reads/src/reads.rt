@@ -85,7 +85,8 @@ impl Reads {
         Ok(())
     }
 
-    /// A member has confirmed the ballot for a number. It takes no memory. For a number that doesn't wait nothing changes.
+    /// A member has confirmed the ballot for a number. It takes no memory. For a number that doesn't wait
+    /// nothing changes.
     pub fn confirmed(&mut self, number: u64, from: Pid)
         requires { IsMember self.old.members from }
         ensures { self.new ≡ with_confirmed self.old number from }
@@ -93,8 +94,8 @@ impl Reads {
         confirm_each(&mut self.waiting, number, from);
     }
 
-    /// Takes out the reads that may be answered, by rising number: those for which a majority has confirmed the ballot, once
-    /// the leader has decided all that it adopted.
+    /// Takes out the reads that may be answered, by rising number: those for which a majority has confirmed
+    /// the ballot, once the leader has decided all that it adopted.
     pub fn ready(&mut self, alloc: Global, decided: u64, adopted: u64) -> Result<Asked, NoMemory>
         ensures others { OnOk result (self.new ≡ without_answered self.old decided adopted) }
         ensures answered { IfOk result (λ reads. reads ≡ answered self.old decided adopted) }

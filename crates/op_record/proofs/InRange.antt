@@ -1,12 +1,11 @@
 -- Parts, closed lists, what is held while joining and durable states fit exactly where their fields do.
-use Rattle.std.proofs.Common.{◌≡◌, ℕ, ◌+◌, ◌-◌, ◌<◌, ◌≤◌, Bool, true, false, eqb, IsTrue, List, [], ◌∷◌, length, get_or, Option, Some, None, refl, sym, ap, ◌∙◌, arith, true≢false}
+use Rattle.std.proofs.Common.{◌≡◌, ℕ, ◌+◌, ◌-◌, ◌≤◌, Bool, true, false, eqb, IsTrue, List, [], ◌∷◌, length, get_or, Option, Some, None, refl, sym, ap, ◌∙◌, arith, true≢false}
 use Rattle.std.specs.Prelude.{IfSome, All, not}
 use Rattle.std.proofs.lemmas.List.Elements.{All-cons}
 use Rattle.std.proofs.lemmas.Bool.{eqb-true, eq-eqb, ltb-true, lt-ltb}
 use Rattle.op_types.specs.Limits.{last_conf, positions_end}
 use Rattle.op_types.specs.Changes.{IsCommand}
 use Rattle.op_types.specs.Ranges.{EntryInRange, EntriesInRange}
-use Rattle.op_types.specs.Rises.{AreAbove, Rises}
 use Rattle.op_types.specs.declared.log.Entry.{Entry}
 use Rattle.op_types.specs.declared.log.Entry.TheVariants as entries
 use Rattle.op_types.specs.declared.durable.Part.{Part}
@@ -112,14 +111,6 @@ held_each len low (x ∷ xs) h = All-cons (λ x. EntryInRange x.1) x xs h.2 (hel
 held_few : (len low : ℕ) (xs : List (ℕ × Entry)) → low ≤ len → HeldInRange len low xs → low + length xs ≤ len
 held_few len low [] le h = omega (arith, le)
 held_few len low (x ∷ xs) le h = omega (arith, h.0, held_few len (x.0 + 1) xs (omega (arith, h.1)) h.3)
-
-stand_above : (len n low : ℕ) (xs : List (ℕ × Entry)) → n < low → Items (held_entry len) (λ x. x.0 + 1) low xs → AreAbove n xs
-stand_above len n low [] lt h = tt
-stand_above len n low (x ∷ xs) lt h = (omega (arith, lt, h.0.0.0), stand_above len n (x.0 + 1) xs (omega (arith, lt, h.0.0.0)) h.1)
-
-pub held_rises : (len low : ℕ) (xs : List (ℕ × Entry)) → Items (held_entry len) (λ x. x.0 + 1) low xs → Rises xs
-held_rises len low [] h = tt
-held_rises len low (x ∷ xs) h = (stand_above len x.0 (x.0 + 1) xs (omega arith) h.1, held_rises len (x.0 + 1) xs h.1)
 
 base_in_range : (len : ℕ) (b : Option (ℕ × List ℕ)) → (held_base len).fits b → IfSome b (λ b. (b.0 ≤ len) × IsBase b.1)
 base_in_range len None h = tt

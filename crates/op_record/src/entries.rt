@@ -10,7 +10,8 @@ use op_entry::put;
 use op_fields::{NoMemory, put_u64};
 use op_types::Entry;
 
-/// Appends entries, and others behind them, after the count of all. Without memory a part of them may be appended.
+/// Appends entries, and others behind them, after the count of all. Without memory a part of them may be
+/// appended.
 #[tactic(auto, using(op_fields::proofs::Prefixes::kept_through))]
 pub fn put_joined(out: &mut Vec<u8>, first: &[Entry], second: &[Entry]) -> Result<(), NoMemory>
     requires { EntriesInRange positions_end (first.now ++ second.now) }

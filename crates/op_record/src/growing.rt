@@ -21,7 +21,8 @@ pub fn begin_step(out: &mut Vec<u8>) -> Result<(), NoMemory>
     Ok(())
 }
 
-/// Appends changes to such a body, whose count is still to be set. Without memory a part of them may be appended.
+/// Appends changes to such a body, whose count is still to be set. Without memory a part of them may be
+/// appended.
 #[tactic(auto, using(op_fields::proofs::Prefixes::kept_through))]
 pub fn put_changes(out: &mut Vec<u8>, changes: &Batch) -> Result<(), NoMemory>
     requires { All ChangeInRange changes.now }

@@ -15,8 +15,8 @@ use op_fields::{NoMemory, TakeFail, items_at, put_u32, put_u64, u32_in, u64_in};
 use op_types::{ConfNo, Entries, Entry, LAST_CONF, POSITIONS_END, Part, Reserved, Seq};
 use std::alloc::Global;
 
-/// Appends a part with these entries behind its log, and so much decided, if that is named. The room that is reserved in it
-/// is no matter. Without memory a part of its bytes may be appended.
+/// Appends a part with these entries behind its log, and so much decided, if that is named. The room that is
+/// reserved in it is no matter. Without memory a part of its bytes may be appended.
 #[tactic(auto, using(op_fields::proofs::Prefixes::kept_through))]
 pub fn put_part(
     out: &mut Vec<u8>,

@@ -58,10 +58,6 @@ told_few : (left : Option (List ℕ)) (bytes : List ℕ) (s : Status) → ReadsA
 told_few None bytes s all few = tt
 told_few (Some input) bytes s all few = λ long. absurd (omega (arith, ap length all, few, long))
 
-pub told_no_memory : (left : Option (List ℕ)) (s : Status) → s ≡ status.NoMemory → IfSome left (λ input. IsWithinLimit input → IsValid input → IsOrNoMemory status.Ended s)
-told_no_memory None s is = tt
-told_no_memory (Some input) s is = λ _ _. inr is
-
 -- ---- what is refused
 
 -- what was reported was not to be refused

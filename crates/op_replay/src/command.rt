@@ -11,7 +11,8 @@ use std::alloc::Global;
 
 /// Writes the report of a run of the input's schedule, and answers how that ended.
 pub fn replay<S: Source, K: Sink>(alloc: Global, input: &mut S, out: &mut K) -> Status
-    // What is written is the report of a run of the schedule, which meets the list machine, and whose lists answer each client.
+    // What is written is the report of a run of the schedule, which meets the list machine, and whose lists
+    // answer each client.
     ensures output { LeavesOutput result (S.left input.old) (K.held out.old) (K.held out.new) }
     ensures input { LeavesInput result (S.left input.old) (S.left input.new) }
     // Input is refused exactly where it is bad or too long.

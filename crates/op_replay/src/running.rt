@@ -25,7 +25,8 @@ fn lines_of(alloc: Global, events: &[Event]) -> Result<Vec<u64>, AllocError>
     Ok(lines)
 }
 
-/// Runs the events at these members, spares and observers, whose disks are mirrored or not. A refusal tells the line of the first event that can't come in this run.
+/// Runs the events at these members, spares and observers, whose disks are mirrored or not. A refusal tells
+/// the line of the first event that can't come in this run.
 fn run(
     alloc: Global,
     members: Members,

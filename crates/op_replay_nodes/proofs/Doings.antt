@@ -158,18 +158,6 @@ module _ {D C : Type 0} (M : Medium D C) where
   abbrev pub not_due : WorldNode D C → (WorldNode D C)
   not_due old = record old { is_due = false }
 
-  -- what can be done at it can be done then, and what is done is done of it before
-  pub still_can : (old : WorldNode D C) (d : Doing) → CanDo (area_nodes M) old d → CanDo (area_nodes M) (not_due old) d
-  still_can old d can = record {
-    ids = can.ids;
-    are_ids = can.are_ids;
-    kept = can.kept;
-    node = can.node;
-    shown = record { pid = can.shown.pid; state = can.shown.state };
-    range = can.range;
-    doing = can.doing;
-  }
-
   done_before : (old new : WorldNode D C) (d : Doing) (line : ℕ) (sends : List (ℕ × Msg)) (told : List Line) → IsDoneAt (area_nodes M) tt (not_due old) d line new sends told → IsDoneAt (area_nodes M) tt old d line new sends told
   done_before old new d line sends told did = record {
     after = λ x shown.

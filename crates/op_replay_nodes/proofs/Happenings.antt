@@ -30,7 +30,7 @@ use Rattle.op_replay_nodes.specs.declared.node_state.DownNode.{DownNode}
 use Rattle.op_replay_nodes.specs.declared.node_state.NodeState.{NodeState}
 use Rattle.op_replay_nodes.specs.declared.node_state.NodeState.TheVariants as node
 use Rattle.op_replay_nodes.specs.declared.node_state.WorldNode.{WorldNode}
-use Rattle.op_replay_nodes.proofs.NodeDisks.{closed_holds, down_holds, stays_down_itself, stores_one, stays_itself}
+use Rattle.op_replay_nodes.proofs.NodeDisks.{closed_holds, down_holds, stores_one}
 use Rattle.op_executions.proofs.NodeDone.{becomes, told_done, nothing_done, status_done, quietly_done}
 
 module _ {D C : Type 0} (M : Medium D C) where
@@ -416,9 +416,3 @@ module _ {D C : Type 0} (M : Medium D C) where
   -- what is done of a node that goes on is done of it before
   pub first_stays : (j : Kind) (pid : ℕ) (comes : Fate → Type 0) (old s new : NodeState D C) (d : Doing) (line : ℕ) (sends : List (ℕ × Msg)) (told : List Line) → StaysSame M old s → IsDoneOf M j pid comes s d line new sends told → IsDoneOf M j pid comes old d line new sends told
   first_stays j pid comes old s new d line sends told g did = record { after = λ x at shown. did.after x at (stays_shown old s g x shown); kept = did.kept }
-
-  -- a node goes on as it is
-  pub stays_same : (s : NodeState D C) → StaysSame M s s
-  stays_same (node.Up n) = stays_itself M.state n
-  stays_same (node.Failed n) = stays_itself M.state n
-  stays_same (node.Down d) = stays_down_itself M.holds d

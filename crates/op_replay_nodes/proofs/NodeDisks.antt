@@ -1,5 +1,5 @@
 -- The areas of a node: armed, opened, closed, and what a stop leaves of them.
-use Rattle.std.proofs.Common.{◌≡◌, ℕ, List, refl, sym, ap, subst, ◌∙◌, inl}
+use Rattle.std.proofs.Common.{◌≡◌, ℕ, List, sym, ap, subst, ◌∙◌, inl}
 use Rattle.op_types.specs.declared.durable.Durable.{Durable}
 use Rattle.op_outside.specs.Disks.{DiskState, IsAtRest}
 use Rattle.op_memory.specs.MemDisks.{BeginsAnew}
@@ -82,9 +82,6 @@ module _ {D : Type 0} (state : D → DiskState) where
     stores = λ before after s. subst (λ (x : Store D). StoreOneOf before after (disks_of state x)) (sym store) s;
   }
 
-  pub stays_itself : (n : Node D) → StaysNode state n n
-  stays_itself n = record { node = refl; sound = λ s. s; represented = λ r. r; stores = λ before after s. s }
-
 -- ---- closed copies
 
 module _ {C : Type 0} (holds : C → List ℕ → Type 0) where
@@ -94,12 +91,6 @@ module _ {C : Type 0} (holds : C → List ℕ → Type 0) where
 
   pub down_holds : (before after : Durable) (old new : DownNode C) → StaysDown holds old new → HoldOneOf holds before after old.first old.second → HoldOneOf holds before after new.first new.second
   down_holds before after old new stays s = still_held before after old.first old.second new.first new.second stays.first_left stays.second_left s
-
-  pub stays_down_itself : (d : DownNode C) → StaysDown holds d d
-  stays_down_itself d = record { shown_is = refl; first_left = λ x k. k; second_left = λ x k. k }
-
-  pub stays_down_twice : (a b c : DownNode C) → StaysDown holds a b → StaysDown holds b c → StaysDown holds a c
-  stays_down_twice a b c ab bc = record { shown_is = bc.shown_is ∙ ab.shown_is; first_left = λ x k. ab.first_left x (bc.first_left x k); second_left = λ x k. ab.second_left x (bc.second_left x k) }
 
 module _ {D C : Type 0} (state : D → DiskState) (holds : C → List ℕ → Type 0) where
   -- the copies of a node that is closed hold what its areas stored

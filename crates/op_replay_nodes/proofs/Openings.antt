@@ -22,7 +22,7 @@ use Rattle.op_store.specs.declared.store.Store.{Store}
 use Rattle.op_store.proofs.UniquePairs.{one_stored, nothing_or_stored}
 use Rattle.op_chain.specs.Chains.{first_state}
 use Rattle.op_node.specs.Nodes.{NodeState as Inner, node_of, IsSoundNode}
-use Rattle.op_node.specs.Openings.{OpensAs, RefusesNode, part_for, joining_for, durable_for, is_watched, watched_for, taken_as, fresh_for, fresh_as, opening_state, opening_sends}
+use Rattle.op_node.specs.Openings.{OpensAs, RefusesNode, part_for, joining_for, durable_for, is_watched, watched_for, kept_from, fresh_for, fresh_as, opening_state, opening_sends}
 use Rattle.op_node.specs.Reopenings.{StoreOneOf, Reopens, FindsOneOf}
 use Rattle.op_node.specs.declared.node.Node as nodes
 use Rattle.op_node.proofs.Reopenings.{found_one, refused_leaves}
@@ -97,7 +97,7 @@ fresh_taken me members = by (is_member nat_eq members me) refl
         let is : fresh_for me members ≡ empty_durable = cond-false (is_member nat_eq members me) (first_durable members) empty_durable h in
         ap (λ (d : Durable). durable_for me d) is ∙ sym is
 
-fresh_is_taken : (k : Kind) (me : ℕ) (members : List ℕ) → taken_as k me (fresh_as k me members) ≡ fresh_as k me members
+fresh_is_taken : (k : Kind) (me : ℕ) (members : List ℕ) → kept_from k me (fresh_as k me members) ≡ fresh_as k me members
 fresh_is_taken Votes me members = fresh_taken me members
 fresh_is_taken Observes me members =
     watched (first_durable members) (record { part = new_part 1 members (base_bytes new_service); alone = refl; promised = refl; accepted = refl; decided = refl })
@@ -111,27 +111,27 @@ first_state_is Observes me members = refl
 
 module _ (k : Kind) (ids : List ℕ) (n : Node) (range : ServerInRange ids k n) where
   -- what was stored before the step in which it stopped or failed
-  takes_before : taken_as k n.pid n.state.durable ≡ n.state.durable
+  takes_before : kept_from k n.pid n.state.durable ≡ n.state.durable
   takes_before = by k range
     where
-      by : (j : Kind) → ServerInRange ids j n → taken_as j n.pid n.state.durable ≡ n.state.durable
+      by : (j : Kind) → ServerInRange ids j n → kept_from j n.pid n.state.durable ≡ n.state.durable
       by Votes r = taken n.pid n.state.durable r.named
       by Observes r = watched n.state.durable r.stored
 
   -- and what this was to store
-  takes_down : (after : Durable) → n.status ≡ Down after → taken_as k n.pid after ≡ after
+  takes_down : (after : Durable) → n.status ≡ Down after → kept_from k n.pid after ≡ after
   takes_down after is = by k range
     where
-      by : (j : Kind) → ServerInRange ids j n → taken_as j n.pid after ≡ after
+      by : (j : Kind) → ServerInRange ids j n → kept_from j n.pid after ≡ after
       by Votes r =
           let found : FoundInRange (IsMember ids) n.pid after = subst (λ (st : NodeStatus). StatusInRange (IsMember ids) n.pid st) is r.status in
           taken n.pid after found.1
       by Observes r = let found : IsWatching after = subst (λ (st : NodeStatus). FindsWatching st) is r.found in watched after found
 
-  takes_failed : (count : ℕ) (after : Durable) → n.status ≡ Failed count after → taken_as k n.pid after ≡ after
+  takes_failed : (count : ℕ) (after : Durable) → n.status ≡ Failed count after → kept_from k n.pid after ≡ after
   takes_failed count after is = by k range
     where
-      by : (j : Kind) → ServerInRange ids j n → taken_as j n.pid after ≡ after
+      by : (j : Kind) → ServerInRange ids j n → kept_from j n.pid after ≡ after
       by Votes r =
           let found : FoundInRange (IsMember ids) n.pid after = subst (λ (st : NodeStatus). StatusInRange (IsMember ids) n.pid st) is r.status in
           taken n.pid after found.1
@@ -147,18 +147,18 @@ module _ {D C : Type 0} (M : Medium D C) where
 
   -- what a node that is shown may find it takes whole
   module _ (k : Kind) (pid : ℕ) (s : NodeState D C) (range : IsInRange M k pid s) where
-    whole_before : taken_as k pid (range.node).state.durable ≡ (range.node).state.durable
-    whole_before = subst (λ (p : ℕ). taken_as k p (range.node).state.durable ≡ (range.node).state.durable) range.pid_is (takes_before k range.ids range.node range.range)
+    whole_before : kept_from k pid (range.node).state.durable ≡ (range.node).state.durable
+    whole_before = subst (λ (p : ℕ). kept_from k p (range.node).state.durable ≡ (range.node).state.durable) range.pid_is (takes_before k range.ids range.node range.range)
 
-    whole_down : (after : Durable) → (range.node).status ≡ Down after → taken_as k pid after ≡ after
-    whole_down after is = subst (λ (p : ℕ). taken_as k p after ≡ after) range.pid_is (takes_down k range.ids range.node range.range after is)
+    whole_down : (after : Durable) → (range.node).status ≡ Down after → kept_from k pid after ≡ after
+    whole_down after is = subst (λ (p : ℕ). kept_from k p after ≡ after) range.pid_is (takes_down k range.ids range.node range.range after is)
 
-    whole_failed : (count : ℕ) (after : Durable) → (range.node).status ≡ Failed count after → taken_as k pid after ≡ after
-    whole_failed count after is = subst (λ (p : ℕ). taken_as k p after ≡ after) range.pid_is (takes_failed k range.ids range.node range.range count after is)
+    whole_failed : (count : ℕ) (after : Durable) → (range.node).status ≡ Failed count after → kept_from k pid after ≡ after
+    whole_failed count after is = subst (λ (p : ℕ). kept_from k p after ≡ after) range.pid_is (takes_failed k range.ids range.node range.range count after is)
 
-  takes_one : (k : Kind) (pid : ℕ) (d before after : Durable) → (d ≡ before) ⊎ (d ≡ after) → taken_as k pid before ≡ before → taken_as k pid after ≡ after → taken_as k pid d ≡ d
+  takes_one : (k : Kind) (pid : ℕ) (d before after : Durable) → (d ≡ before) ⊎ (d ≡ after) → kept_from k pid before ≡ before → kept_from k pid after ≡ after → kept_from k pid d ≡ d
   takes_one k pid d before after one first second =
-      ⊎_elim (λ is. subst (λ (e : Durable). taken_as k pid e ≡ e) (sym is) first) (λ is. subst (λ (e : Durable). taken_as k pid e ≡ e) (sym is) second) one
+      ⊎_elim (λ is. subst (λ (e : Durable). kept_from k pid e ≡ e) (sym is) first) (λ is. subst (λ (e : Durable). kept_from k pid e ≡ e) (sym is) second) one
 
   -- which one is found
   abbrev found_by : Bool → Durable → Durable → Durable
@@ -205,7 +205,7 @@ module _ {D C : Type 0} (M : Medium D C) where
     abbrev first_shown : ShowsDown M down (range.node).state (range.node).status
     first_shown = range.shown
 
-    takes : taken_as k me o.durable ≡ o.durable
+    takes : kept_from k me o.durable ≡ o.durable
     takes =
         takes_one k me o.durable (range.node).state.durable first_shown.after (found_there (range.node).state.durable first_shown.after first_shown.stored).1 (whole_before k me (node.Down down) range)
         (whole_down k me (node.Down down) range first_shown.after first_shown.status_is)
@@ -263,20 +263,20 @@ module _ {D C : Type 0} (M : Medium D C) where
     obey : Obey (disks_of M.state m.store)
     obey = (stays.stores (range.node).state.durable shown_first.after shown_first.stored).obey
 
-    module _ (d : Durable) (r : Reopens M.state d false m k sends) (whole : taken_as kind me d ≡ d) where
-      takes_whole : taken_as kind (node_of m).me d ≡ d
-      takes_whole = ap (λ (p : ℕ). taken_as kind p d) here ∙ whole
+    module _ (d : Durable) (r : Reopens M.state d false m k sends) (whole : kept_from kind me d ≡ d) where
+      takes_whole : kept_from kind (node_of m).me d ≡ d
+      takes_whole = ap (λ (p : ℕ). kept_from kind p d) here ∙ whole
 
       now_is : node_of k ≡ runs_in kind me (state_after_reopening me (node_of n).state d)
       now_is =
           r.node
-          ∙ ap (λ (j : Kind). let i : Inner = record { kind = j; me = (node_of m).me; state = state_after_reopening (node_of m).me (node_of m).state (taken_as j (node_of m).me d); failed = None } in i) kind_here
+          ∙ ap (λ (j : Kind). let i : Inner = record { kind = j; me = (node_of m).me; state = state_after_reopening (node_of m).me (node_of m).state (kept_from j (node_of m).me d); failed = None } in i) kind_here
           ∙ ap (λ (e : Durable). runs_in kind (node_of m).me (state_after_reopening (node_of m).me (node_of m).state e)) takes_whole
           ∙ ap (λ (p : ℕ). runs_in kind p (state_after_reopening p (node_of m).state d)) here
           ∙ ap (λ (i : Inner). runs_in kind me (state_after_reopening me i.state d)) stays.node
 
       sends_now : sends ≡ sends_as kind me d
-      sends_now = r.sends_are ∙ ap (λ (j : Kind). sends_as j (node_of m).me (taken_as j (node_of m).me d)) kind_here ∙ ap (λ (e : Durable). sends_as kind (node_of m).me e) takes_whole ∙ ap (λ (p : ℕ). sends_as kind p d) here
+      sends_now = r.sends_are ∙ ap (λ (j : Kind). sends_as j (node_of m).me (kept_from j (node_of m).me d)) kind_here ∙ ap (λ (e : Durable). sends_as kind (node_of m).me e) takes_whole ∙ ap (λ (p : ℕ). sends_as kind p d) here
 
       reopened_runs : RunsAs M kind me k
       reopened_runs = record {
@@ -284,7 +284,7 @@ module _ {D C : Type 0} (M : Medium D C) where
         me = ap (λ (i : Inner). i.me) now_is;
         failed = ap (λ (i : Inner). i.failed) now_is;
         sound = sound;
-        stored = reopened_represented M.state d false m k sends r obey (ap (λ (j : Kind). taken_as j (node_of m).me d) kind_here ∙ takes_whole);
+        stored = reopened_represented M.state d false m k sends r obey (ap (λ (j : Kind). kept_from j (node_of m).me d) kind_here ∙ takes_whole);
       }
 
       reopened_as : (line : ℕ) (comes : Fate → Type 0) → comes Done → (x : Node) → x.pid ≡ me → (shown : ShowsFailed M n x.state x.status) (b : Bool) → found_by b x.state.durable shown.after ≡ d
@@ -305,7 +305,7 @@ module _ {D C : Type 0} (M : Medium D C) where
           }
 
     -- what is found it takes whole, whichever node is shown
-    whole_first : (d : Durable) → (d ≡ (range.node).state.durable) ⊎ (d ≡ shown_first.after) → taken_as kind me d ≡ d
+    whole_first : (d : Durable) → (d ≡ (range.node).state.durable) ⊎ (d ≡ shown_first.after) → kept_from kind me d ≡ d
     whole_first d one =
         takes_one kind me d (range.node).state.durable shown_first.after one (whole_before kind me (node.Failed n) range) (whole_failed kind me (node.Failed n) range shown_first.count shown_first.after shown_first.status_is)
 
@@ -316,12 +316,12 @@ module _ {D C : Type 0} (M : Medium D C) where
         ⊎_elim (λ r. (x.state.durable, r, inl refl)) (λ r. (shown.after, r, inr refl)) f
 
     -- it is the same one of all
-    found_same : (x : Node) (shown : ShowsFailed M n x.state x.status) → taken_as kind me (found_of x shown).0 ≡ (found_of x shown).0
+    found_same : (x : Node) (shown : ShowsFailed M n x.state x.status) → kept_from kind me (found_of x shown).0 ≡ (found_of x shown).0
     found_same x shown =
         let one = found_of x shown in
         let first = found_of range.node shown_first in
         let same : one.0 ≡ first.0 = one_stored _ _ one.0 first.0 (one.1.opened.found obey) (first.1.opened.found obey) in
-        subst (λ (e : Durable). taken_as kind me e ≡ e) (sym same) (whole_first first.0 first.2)
+        subst (λ (e : Durable). kept_from kind me e ≡ e) (sym same) (whole_first first.0 first.2)
 
     pub reopens_again : (line : ℕ) (comes : Fate → Type 0) → comes Done → IsDoneOf M kind me comes (node.Failed n) runs.Opens line (node.Up k) sends []
     reopens_again line comes may = record {
@@ -423,7 +423,7 @@ module _ {D C : Type 0} (M : Medium D C) where
     first_is =
         o.node
         ∙ ap (λ (b : Bool). runs_in k me (opening_state k me b o.durable)) is_fresh.0
-        ∙ ap (λ (d : Durable). runs_in k me (first_state me (taken_as k me d))) is_fresh.1
+        ∙ ap (λ (d : Durable). runs_in k me (first_state me (kept_from k me d))) is_fresh.1
         ∙ ap (λ (d : Durable). runs_in k me (first_state me d)) (fresh_is_taken k me members)
         ∙ ap (λ (s : State). runs_in k me s) (first_state_is k me members)
 

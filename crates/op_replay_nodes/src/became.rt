@@ -178,8 +178,8 @@ fn reopened<A: Area>(
     }
 }
 
-/// The opening of a node that is down, for whose disks this is planned: its areas are opened, and it goes on with what they
-/// store. One that votes asks to be prepared.
+/// The opening of a node that is down, for whose disks this is planned: its areas are opened, and it goes on
+/// with what they store. One that votes asks to be prepared.
 fn opened_again<A: Area>(
     alloc: Global,
     pid: Pid,
@@ -246,8 +246,8 @@ fn opened<A: Area>(
     })
 }
 
-/// What is left of a node that stopped in a call of its areas, or one of whose calls failed. A fault that nothing awaited, of areas
-/// none of which is lost, is want of memory.
+/// What is left of a node that stopped in a call of its areas, or one of whose calls failed. A fault that
+/// nothing awaited, of areas none of which is lost, is want of memory.
 fn after_fault<A: Area>(
     alloc: Global,
     node: Node<A>,
@@ -272,8 +272,8 @@ fn after_fault<A: Area>(
     })
 }
 
-/// What is left of a node that was down and stopped in a call of its opening, or one of whose calls failed. Its areas store one of
-/// two states, so that no damage is found.
+/// What is left of a node that was down and stopped in a call of its opening, or one of whose calls failed.
+/// Its areas store one of two states, so that no damage is found.
 fn closed_again<A: Area>(
     alloc: Global,
     shown: Durable,
@@ -340,8 +340,8 @@ fn is_proposal(input: &Input) -> bool
     }
 }
 
-/// What is reported of a step, said in this line of the schedule, after which a node that met a fault is so: where it failed, that
-/// what was proposed is refused.
+/// What is reported of a step, said in this line of the schedule, after which a node that met a fault is so:
+/// where it failed, that what was proposed is refused.
 fn fault_lines<D, C>(
     alloc: Global,
     state: &NodeState<D, C>,

@@ -67,7 +67,8 @@ pub fn left_of<A: Area>(
     })
 }
 
-/// The node, closed: it is down, and its copies hold what a crash leaves of its areas. With how often these had failed.
+/// The node, closed: it is down, and its copies hold what a crash leaves of its areas. With how often these
+/// had failed.
 pub fn closed_node<A: Area>(node: Node<A>) -> Result<(DownNode<A::Copies>, Faults), NoMemory>
     ensures { IfOk result (λ r. IsClosedAs A.state A.holds
         (node_of node).state.durable node.store.first node.store.second r.0) }

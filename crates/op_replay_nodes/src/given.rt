@@ -8,7 +8,8 @@ use op_runs::Lines;
 use op_types::{NoMemory, Pid, Sends};
 use std::alloc::Global;
 
-/// Adds the lines of a step at a node, said in this line of the schedule, that gave this, and gives the messages.
+/// Adds the lines of a step at a node, said in this line of the schedule, that gave this, and gives the
+/// messages.
 #[inline(always)]
 pub fn tell_given(pid: Pid, line: u64, given: Given, lines: &mut Lines) -> Result<Sends, NoMemory>
     ensures sends { IfOk result (λ sends. sends ≡ given.sends) }

@@ -29,7 +29,8 @@ use op_types::{Input, Members, NoMemory, Pid, Sends};
 use std::alloc::Global;
 use std::mem::replace;
 
-/// How many steps the disks of a node that is up keep the calls of: they forget them all at once, so that most steps move no disk.
+/// How many steps the disks of a node that is up keep the calls of: they forget them all at once, so that
+/// most steps move no disk.
 const MOST_KEPT_STEPS: u8 = 250;
 
 impl<A: Area> Server for WorldNode<A, A::Copies> {
@@ -192,7 +193,8 @@ impl<A: Area> WorldNode<A, A::Copies> {
         Ok(Done { sends, told })
     }
 
-    /// Counts a step, and lets the disks of a node that is up forget their calls once they keep those of so many.
+    /// Counts a step, and lets the disks of a node that is up forget their calls once they keep those of so
+    /// many.
     #[inline(always)]
     fn forget_in_time(&mut self, alloc: Global) -> Result<(), NoMemory>
         ensures { OnOk result (GoesOn (medium A.state A.holds A.IS_MIRRORED) self.old self.new) }

@@ -3,7 +3,8 @@ use crate::plan::Plan;
 use op_node::Node;
 use op_types::{Durable, Pid};
 
-/// A node of a world, which votes or observes: over these areas while it isn't down, and over these closed copies while it is.
+/// A node of a world, which votes or observes: over these areas while it isn't down, and over these closed
+/// copies while it is.
 #[derive(Drop)]
 pub struct WorldNode<D, C> {
     /// Its id.

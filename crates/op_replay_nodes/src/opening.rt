@@ -11,8 +11,8 @@ use op_store::Returned;
 use op_types::{Members, Pid, Sends};
 use std::alloc::Global;
 
-/// Opens the node of a server, which observes or not, on its areas. Gives the node, and what it sends. A refusal hands back the
-/// areas with its cause.
+/// Opens the node of a server, which observes or not, on its areas. Gives the node, and what it sends. A
+/// refusal hands back the areas with its cause.
 pub fn open_node<A: Area>(
     alloc: Global,
     pid: Pid,

@@ -143,8 +143,8 @@ fn copy_of(which: Which, disk: u8) -> Option<u8> {
     }
 }
 
-/// In which copy of this area a call is made, if it is one of its: the first calls are disk 1's, then come those of disk 2, and
-/// so on.
+/// In which copy of this area a call is made, if it is one of its: the first calls are disk 1's, then come
+/// those of disk 2, and so on.
 fn copy_at(which: Which, call: u8) -> Option<u8> {
     copy_of(which, call.saturating_sub(1) / CALLS_OF_DISK + 1)
 }

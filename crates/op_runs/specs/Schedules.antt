@@ -199,18 +199,18 @@ beginning pid = record { line = 0; what = what.Start pid }
 abbrev pub beginnings : List ℕ → List Event
 beginnings observers = map beginning observers
 
-abbrev pub begun : List ℕ → List Happening
-begun observers = all_done (beginnings observers)
+abbrev pub observers_begun : List ℕ → List Happening
+observers_begun observers = all_done (beginnings observers)
 
 -- the world in which these observers have begun, before a schedule's first event
 abbrev pub started_world : List ℕ → List ℕ → List ℕ → World
-started_world members spares observers = run_of (first_world members spares) (begun observers)
+started_world members spares observers = run_of (first_world members spares) (observers_begun observers)
 
 -- a schedule's events at these members, spares and observers, with mirrored disks or not, become these
 -- happenings behind those in which the observers begin
 abbrev pub IsRunOf : List ℕ → List ℕ → List ℕ → Bool → List Event → List Happening → Type 0
 IsRunOf members spares observers mirrored events hs =
-    (later : List Happening) × (hs ≡ begun observers ++ later)
+    (later : List Happening) × (hs ≡ observers_begun observers ++ later)
     × RunsFrom mirrored (named_ids members spares observers) (started_world members spares observers) no_plans
     events later
 

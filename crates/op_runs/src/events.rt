@@ -7,7 +7,8 @@ pub enum What {
     Tick(Pid),
     /// Clients propose commands together, 1 to 64.
     Commands(Pid, Commands),
-    /// A client proposes to end the configuration, with these members in the next one. They are rare, and lie apart.
+    /// A client proposes to end the configuration, with these members in the next one. They are rare, and lie
+    /// apart.
     Stop(Pid, Shared<Members>),
     /// A client asks for trimming.
     Trim(Pid),
@@ -21,14 +22,15 @@ pub enum What {
     Down(Pid, Pid),
     /// The node stops between two steps.
     Crash(Pid),
-    /// The node stops in this call of a disk, of its next step or opening, and this image is left of each disk. Calls 1 to 50 are
-    /// the first disk's, 51 to 100 the second's, and so on to the fourth's. Where the call isn't made, it stops after the step.
+    /// The node stops in this call of a disk, of its next step or opening, and this image is left of each
+    /// disk. Calls 1 to 50 are the first disk's, 51 to 100 the second's, and so on to the fourth's. Where the
+    /// call isn't made, it stops after the step.
     CrashAt(Pid, u8, u8),
-    /// This call of a disk, of the node's next step or opening, fails; calls are numbered as for `CrashAt`. Where the call isn't
-    /// made, nothing fails.
+    /// This call of a disk, of the node's next step or opening, fails; calls are numbered as for `CrashAt`.
+    /// Where the call isn't made, nothing fails.
     Fail(Pid, u8),
-    /// This disk of the node fails at every call from now on, over starts too. Disks 1 and 2 hold its two areas; where they are
-    /// mirrored, 3 and 4 hold the second copies.
+    /// This disk of the node fails at every call from now on, over starts too. Disks 1 and 2 hold its two
+    /// areas; where they are mirrored, 3 and 4 hold the second copies.
     Kill(Pid, u8),
     /// A node that is down is opened again.
     Start(Pid),

@@ -24,7 +24,7 @@ use Rattle.op_sched.specs.declared.reading.operations.OpForm.{OpForm}
 use Rattle.op_sched.specs.declared.reading.operations.OpForm.TheVariants as op_form
 use Rattle.op_sched.specs.Forms.{Adds, op_form_name, form_name, ArePeers, AreCallOf, AreDiskOf, AreStopOf}
 use Rattle.std.proofs.lemmas.List.Elements.{All-nil, All-cons}
-use Rattle.op_text.specs.Operations.{IsReadOf, OpIsOfBytes, AreOperandsOf, op_name, operands, read_words}
+use Rattle.op_text.specs.Operations.{OpIsOfBytes, AreOperandsOf, op_name, operands}
 use Rattle.op_text.proofs.Operations.{first, after_first, few_operands, is_op_name, no_op}
 use Rattle.op_sched.specs.Grammar.{ProposesOne, AreWordsOf, IsEventLine, IsMirrorLine, SuitsDisks, op_words, what_words, words_of}
 use Rattle.op_sched.specs.declared.reading.words.TheConstants.{MOST_WORDS}
@@ -270,16 +270,6 @@ no_operation now words f none w h =
     let s = command_says f (map now words) w h in
     let all = take_all (length words - 3) (drop 3 words) (omega (arith, length-drop 3 words)) in
     none s.c.op (record { in_range = s.range.op; of_bytes = s.bytes; named = s.named; written = ap (map now) all ∙ sym (drop-map now 3 words) ∙ ap (drop 3) s.rest })
-
--- ---- a read
-
--- words behind the name that are no server's and a read's tell no read
-pub no_read : (words : List (List ℕ)) → ((p : ℕ) (more : List (List ℕ)) (r : Read) → IsPid p → IsReadOf more r → words ≡ decimal p ∷ more → ⊥) → (w : What) → AreWordsOf (codes "read" ∷ words) w → ⊥
-no_read words none (what.Read p r) h = none p (read_words r) r h.in_range.0 (record { in_range = h.in_range.1; of_bytes = h.of_bytes; written = refl }) (ap after_first h.written)
-no_read words none (what.Commands p []) h = absurd (omega (arith, h.one))
-no_read words none (what.Commands p (c ∷ (d ∷ cs))) h = absurd (omega (arith, h.one))
-no_read words none (what.Commands p (c ∷ [])) h = no_op c.op (codes "read") refl (sym (ap first h.written))
-no_read words none w h = absurd (false≢true ((bytes_eq-Decides (codes "read") (name_of w)).1 (ap first h.written)))
 
 -- ---- a session
 

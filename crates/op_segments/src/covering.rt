@@ -38,7 +38,8 @@ fn run_of(alloc: Global, items: &[(u64, Entry)], from: u64, to: u64) -> Result<E
     Ok(entries)
 }
 
-/// Goes past an item, with its entry where it stands at the next position. Tells the position that is next then.
+/// Goes past an item, with its entry where it stands at the next position. Tells the position that is next
+/// then.
 fn walk(
     alloc: Global,
     entries: &mut Entries,

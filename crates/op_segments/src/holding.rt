@@ -18,7 +18,8 @@ pub fn take_base(alloc: Global, joining: &Joining, at: u64, base: Blob) -> Resul
     Ok(batch)
 }
 
-/// The change by which entries are held, where they stand in the closed list and bring a position that isn't held.
+/// The change by which entries are held, where they stand in the closed list and bring a position that isn't
+/// held.
 pub fn take_entries(
     alloc: Global,
     joining: &Joining,

@@ -7,8 +7,9 @@ ghost use Rattle.op_segments.specs.Staging.{whole_with, completed, are_of, none_
 use op_types::{Blob, ConfNo, Joining, Piece, Pieces, Turn};
 use std::alloc::{AllocError as NoMemory, Global};
 
-/// What a piece does that doesn't complete a base: it is staged, in room that is made where no piece of its base is. Pieces
-/// that come to all bytes, but to no base, are let go of, and a piece that the node doesn't take does nothing.
+/// What a piece does that doesn't complete a base: it is staged, in room that is made where no piece of its
+/// base is. Pieces that come to all bytes, but to no base, are let go of, and a piece that the node doesn't
+/// take does nothing.
 pub fn stage_piece(
     alloc: Global,
     joining: &Joining,
@@ -30,8 +31,8 @@ pub fn stage_piece(
     Ok(Turn::StagePiece(piece, fresh))
 }
 
-/// The bytes of the base that a piece completes, if the node takes the piece. They are copied only once all of them are there,
-/// which is told without memory.
+/// The bytes of the base that a piece completes, if the node takes the piece. They are copied only once all
+/// of them are there, which is told without memory.
 pub fn completed(
     alloc: Global,
     joining: &Joining,
@@ -47,7 +48,8 @@ pub fn completed(
     whole_with(alloc, pieces, piece)
 }
 
-/// Whether the node takes a piece: it holds no base, and the piece stands in the closed list and inside its base.
+/// Whether the node takes a piece: it holds no base, and the piece stands in the closed list and inside its
+/// base.
 fn takes_piece(joining: &Joining, conf: ConfNo, piece: &Piece) -> bool
     ensures { result ≡ takes_piece joining.now conf piece.now }
 {

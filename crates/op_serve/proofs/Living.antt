@@ -23,7 +23,7 @@ use Rattle.op_store.proofs.CommitCrashes.{open_stored, image_stored, rests_first
 use Rattle.op_store.proofs.UniquePairs.{one_stored, nothing_or_stored}
 use Rattle.op_chain.specs.Chains.{first_state}
 use Rattle.op_node.specs.Nodes.{NodeState, node_of}
-use Rattle.op_node.specs.Openings.{fresh_as, fresh_for, opening_state, taken_as, TakesWhole}
+use Rattle.op_node.specs.Openings.{fresh_as, fresh_for, opening_state, kept_from, TakesWhole}
 use Rattle.op_node.specs.Reopenings.{IsOneOf, StoreOneOf}
 use Rattle.op_node.specs.declared.node.Node.{Node}
 use Rattle.op_core.specs.Disks.{Stores}
@@ -178,7 +178,7 @@ follows_one before after old new s (inr left) = s.left new.first.content new.sec
 
 -- a node that takes all that it found
 opened_life : (kind : Kind) (id count : ℕ) (d : Durable) (n : NodeState) (l : Lived) → (stands l).kind ≡ kind → (stands l).me ≡ id → TakesWhole kind id d
-    → n ≡ record { kind = kind; me = id; state = state_after_restart id (taken_as kind id d); failed = None } → life_of n count [] ≡ lived_by l (opens d count)
+    → n ≡ record { kind = kind; me = id; state = state_after_restart id (kept_from kind id d); failed = None } → life_of n count [] ≡ lived_by l (opens d count)
 opened_life kind id count d n l of me whole is =
     ap (λ (k : NodeState). life_of k count []) (is ∙ ap (λ (e : Durable). let k : NodeState = record { kind = kind; me = id; state = state_after_restart id e; failed = None } in k) whole)
     ∙ ap (λ (j : ℕ). let k : NodeState = record { kind = kind; me = j; state = state_after_restart j d; failed = None } in life_of k count []) (sym me)

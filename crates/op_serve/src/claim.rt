@@ -8,7 +8,8 @@ pub enum Claim {
     Nobodys,
     /// It is another node's, or of another cluster: this id, and the cluster's name.
     Others(Pid, ClusterName),
-    /// It is the node's own, which hasn't begun: `begun` is to be written at this byte offset, behind the line, once it has.
+    /// It is the node's own, which hasn't begun: `begun` is to be written at this byte offset, behind the
+    /// line, once it has.
     New(u64),
     /// It is the node's own, which has begun: something stands behind the line.
     Begun,

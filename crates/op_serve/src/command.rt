@@ -10,9 +10,9 @@ use op_input::read_settings;
 use op_outside::{Clock, Disk, Net, Sink, Source};
 use std::alloc::Global;
 
-/// Serves as the node of this server: reads its settings, looks at its folder where they name the cluster, opens it on its disks,
-/// listens at its own address, tells that it is ready, and serves until an end request or the last turn. The disks are handed back,
-/// and what was lost for want of memory is told.
+/// Serves as the node of this server: reads its settings, looks at its folder where they name the cluster,
+/// opens it on its disks, listens at its own address, tells that it is ready, and serves until an end request
+/// or the last turn. The disks are handed back, and what was lost for want of memory is told.
 pub fn serve_as<D: Disk, N: Net, C: Clock, S: Source, K: Sink>(
     alloc: Global,
     seat: Seat<D>,

@@ -28,8 +28,8 @@ const MOST_TEXT: usize = 128;
 /// The first byte of an area that isn't closed.
 const OPEN_GATE: u8 = 0xA5;
 
-/// Whether the node of this id may begin on these disks, and where its folder is to be told that it has, if it isn't yet. The status
-/// tells why it may not.
+/// Whether the node of this id may begin on these disks, and where its folder is to be told that it has, if
+/// it isn't yet. The status tells why it may not.
 pub(crate) fn may_begin<D: Disk>(
     id: Pid,
     settings: &Settings,
@@ -135,7 +135,8 @@ fn store_nothing<D: Disk>(is_mirrored: bool, disks: &mut NodeDisks<D>) -> Result
     }
 }
 
-/// Whether an area stores nothing, by its first copy or, of a mirrored node, by the second one where the first one fails.
+/// Whether an area stores nothing, by its first copy or, of a mirrored node, by the second one where the
+/// first one fails.
 fn stores_nothing<D: Disk>(is_mirrored: bool, first: &mut D, copy: &mut D) -> Result<bool, DiskFail>
     ensures { AreaLooks D.Disk is_mirrored first.old copy.old first.new copy.new result }
 {

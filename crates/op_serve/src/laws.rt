@@ -26,9 +26,9 @@ ghost use Rattle.op_serve.specs.Nodes.{Around, Ends, IsDamaged, IsNewer, IsOpene
 
 use op_outside::Disk;
 
-/// Where a life of a node left its disks, an opening of them, or of what a crash left of them, finds what the node had stored, or
-/// what else that life may leave, and the next life of the node begins with it. Over disks that store nothing an opening begins the
-/// first life.
+/// Where a life of a node left its disks, an opening of them, or of what a crash left of them, finds what the
+/// node had stored, or what else that life may leave, and the next life of the node begins with it. Over
+/// disks that store nothing an opening begins the first life.
 pub fn openings_begin_lives<D: Disk>()
     ensures next { (members : List ℕ) (l : Lived) (gone old new : Around D) (n : NodeState)
         (opened : IsOpened D.state (stands l).kind (stands l).me members old new n)
@@ -39,10 +39,11 @@ pub fn openings_begin_lives<D: Disk>()
         → IsFirst kind id members opened.durable n (faults_of D.state new) }
 {}
 
-/// What `serve_as` says of a process that ends by itself makes it one of these, or its opening was refused, and keeps what a life
-/// left. Over such processes of one node, the first over disks that store nothing and each other one over what the one before
-/// left, what happens is at each moment a life of the node as the theorem of a cluster has it, which observes where it is an
-/// observer, and each thing that happens may happen then.
+/// What `serve_as` says of a process that ends by itself makes it one of these, or its opening was refused,
+/// and keeps what a life left. Over such processes of one node, the first over disks that store nothing and
+/// each other one over what the one before left, what happens is at each moment a life of the node as the
+/// theorem of a cluster has it, which observes where it is an observer, and each thing that happens may
+/// happen then.
 pub fn processes_are_lives<D: Disk>()
     ensures ends { (id : ℕ) (o : Settings) (old new : Around D) (s : Status) (lost : List Mark)
         → Ends D.state id o old new s lost → ObeyIn D.state old
@@ -59,8 +60,9 @@ pub fn processes_are_lives<D: Disk>()
         → Lasts (first_life members observers faulted id) (events_of D.state p (events_then D.state ps)) }
 {}
 
-/// A node ends by telling a newer version exactly where an area of its disks has one, and by telling damage exactly where there is
-/// some, unless a disk failed in its opening, or there was no memory for it. What it tells is left as it was.
+/// A node ends by telling a newer version exactly where an area of its disks has one, and by telling damage
+/// exactly where there is some, unless a disk failed in its opening, or there was no memory for it. What it
+/// tells is left as it was.
 pub fn what_is_not_read_is_told<D: Disk>()
     ensures newer { (id : ℕ) (o : Settings) (old new : Around D) (s : Status) (lost : List Mark)
         → Ends D.state id o old new s lost → ObeyIn D.state old → (area version : ℕ)
@@ -78,13 +80,14 @@ pub fn what_is_not_read_is_told<D: Disk>()
         → s ≡ status.Damaged area at → IsDamaged D.state old new area at }
 {}
 
-/// From one process of a mirrored node to the next, where in each area one copy may have failed for good, in the process before, in
-/// an opening or between.
+/// From one process of a mirrored node to the next, where in each area one copy may have failed for good, in
+/// the process before, in an opening or between.
 ///
-/// The mirrors that are opened read what a crash may have left of the mirrors before, so that the process over them follows the one
-/// before (`processes_are_lives`), and what a life left on those it left on these. What stands of two copies after an opening that was
-/// cut short, refused or done is left of the mirror before, too, and so any number of such starts may come. What stands of a mirror's
-/// copies, after a crash or not, is left of it; and a process that ends by itself leaves either.
+/// The mirrors that are opened read what a crash may have left of the mirrors before, so that the process
+/// over them follows the one before (`processes_are_lives`), and what a life left on those it left on these.
+/// What stands of two copies after an opening that was cut short, refused or done is left of the mirror
+/// before, too, and so any number of such starts may come. What stands of a mirror's copies, after a crash or
+/// not, is left of it; and a process that ends by itself leaves either.
 pub fn mirrors_follow<D: Disk>()
     ensures follow { (a b c d : Mirror D D.Disk) (first_out second_out : Gone) (disks : NodeDisks D)
         → OpensLeftOf D.Disk first_out a disks.first disks.first_copy c
@@ -111,9 +114,10 @@ pub fn mirrors_follow<D: Disk>()
         → LeavesNext D.Disk id o old new s lost }
 {}
 
-/// What is asked of a node's folder, and of its areas, changes none of its disks: so a process whose node begins behind that follows
-/// what the one before left, and what a life left stands, as it did before; of a mirrored node what is left of its copies, too. A
-/// node without mirrors begins only where its areas were read without fail.
+/// What is asked of a node's folder, and of its areas, changes none of its disks: so a process whose node
+/// begins behind that follows what the one before left, and what a life left stands, as it did before; of a
+/// mirrored node what is left of its copies, too. A node without mirrors begins only where its areas were
+/// read without fail.
 pub fn looks_change_nothing<D: Disk>()
     ensures only { (id : ℕ) (o : Settings) (old new : NodeDisks D) (r : Result (Option ℕ) Status)
         → MayBegin D.Disk id o old new r → AreOnlyRead D.Disk old new }

@@ -1,7 +1,8 @@
 ghost use Rattle.std.specs.Prelude.{◌≡◌};
 
-/// The disks of a node: one for each of its two areas, one for the second copy of each, which only a mirrored node calls, and one
-/// for the text that says whose its folder is, which is called where the settings name the cluster.
+/// The disks of a node: one for each of its two areas, one for the second copy of each, which only a mirrored
+/// node calls, and one for the text that says whose its folder is, which is called where the settings name
+/// the cluster.
 #[derive(Drop)]
 pub struct NodeDisks<D> {
     /// The first area.

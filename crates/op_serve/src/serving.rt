@@ -27,8 +27,8 @@ use op_store::{Returned, StoreFail};
 use op_types::{Pid, Sends, is_among};
 use std::alloc::Global;
 
-/// Opens the node on the disks of its two areas, tells its folder that it has begun if that is to be told, listens, tells that it is
-/// ready, and serves.
+/// Opens the node on the disks of its two areas, tells its folder that it has begun if that is to be told,
+/// listens, tells that it is ready, and serves.
 pub(crate) fn serve_on<D: Disk, G: Disk, N: Net, C: Clock, K: Sink>(
     alloc: Global,
     duty: Duty<'_>,
@@ -64,8 +64,8 @@ pub(crate) fn serve_on<D: Disk, G: Disk, N: Net, C: Clock, K: Sink>(
     }
 }
 
-/// Opens the node of this id, which observes where the settings name it. Gives the node, and what it sends. A refusal hands back the
-/// disks with its cause.
+/// Opens the node of this id, which observes where the settings name it. Gives the node, and what it sends. A
+/// refusal hands back the disks with its cause.
 fn open_node<D: Disk>(
     alloc: Global,
     id: Pid,

@@ -47,7 +47,8 @@ impl Server {
         )
     }
 
-    /// What is told of reads: those that can be answered are, or all are given up where the node doesn't lead on.
+    /// What is told of reads: those that can be answered are, or all are given up where the node doesn't lead
+    /// on.
     fn tell(&self, reads: &mut Option<Reads>, plan: &ReadyPlan) -> Result<Replies, NoMemory>
         requires sound { IsSoundServer self.now }
         requires plans { (x : input.Input) × chains.Plans self.now.chain x plan.now }

@@ -95,7 +95,8 @@ impl Server {
         }
     }
 
-    /// A read gets the next number, unless numbers end, and each other member is asked to confirm the ballot for it.
+    /// A read gets the next number, unless numbers end, and each other member is asked to confirm the ballot
+    /// for it.
     fn ask_members(&self, part: &Part, ballot: Ballot, read: &Read) -> Result<Asking, NoMemory>
         ensures { IfOk result (λ a. asking_of a
             ≡ asks_if_numbered self.now.chain.me part.now ballot

@@ -11,7 +11,8 @@ use std::marker::Model;
 pub(crate) struct Reading {
     /// The reads that wait then.
     pub(crate) reads: Option<Reads>,
-    /// What is asked of other members. Where it is anything, there is room behind it for what the rest of the step sends.
+    /// What is asked of other members. Where it is anything, there is room behind it for what the rest of the
+    /// step sends.
     pub(crate) asked: Reserved<(Pid, Msg)>,
     /// The answers, each to whoever asked it.
     pub(crate) replies: Replies,

@@ -52,8 +52,8 @@ impl Server {
         })
     }
 
-    /// A node that is opened again, and has stored this. Its service is made anew from its base and what is decided behind
-    /// it, and nobody waits.
+    /// A node that is opened again, and has stored this. Its service is made anew from its base and what is
+    /// decided behind it, and nobody waits.
     pub fn again(alloc: Global, me: Pid, durable: Durable) -> Result<Server, NoMemory>
         requires { CanOpen me durable }
         ensures me { IfOk result (λ s. s.chain.me ≡ me) }
@@ -68,8 +68,8 @@ impl Server {
         })
     }
 
-    /// Opens the node again in place, which has stored this: all that it keeps in memory begins anew, but for the clients that
-    /// wait, which wait still, and its reads are lost. Without memory it stays as it is.
+    /// Opens the node again in place, which has stored this: all that it keeps in memory begins anew, but for
+    /// the clients that wait, which wait still, and its reads are lost. Without memory it stays as it is.
     pub fn reopen(&mut self, durable: Durable) -> Result<(), NoMemory>
         requires { CanOpen self.old.chain.me durable }
         ensures me { self.new.chain.me ≡ self.old.chain.me }
@@ -83,7 +83,8 @@ impl Server {
         Ok(())
     }
 
-    /// What a step is to do, with all the memory that it takes. Nothing changes but room, and a plan may be dropped.
+    /// What a step is to do, with all the memory that it takes. Nothing changes but room, and a plan may be
+    /// dropped.
     pub fn plan(&mut self, input: Input) -> Result<ServerPlan, NoMemory>
         requires { Admits self.old input }
         ensures same { IsSame self.old self.new }
@@ -203,8 +204,8 @@ impl Server {
         self.chain.service()
     }
 
-    /// The ballot that the node stands for, its leader's as far as it knows, and the one that it promised; none without a
-    /// part.
+    /// The ballot that the node stands for, its leader's as far as it knows, and the one that it promised;
+    /// none without a part.
     pub fn ballots(&self) -> Option<(Ballot, Ballot, Ballot)>
         ensures { result ≡ ballots_in (state_of self.now).volatile (state_of self.now).durable.part }
     {

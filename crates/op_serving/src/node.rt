@@ -37,8 +37,8 @@ pub trait Core {
     /// Where it stands, as a client is told.
     ghost line: { Standing → List ℕ };
 
-    /// A step: what the input makes of the node, and what it gives out. A node that failed is opened again at a tick.
-    /// Without memory nothing changes.
+    /// A step: what the input makes of the node, and what it gives out. A node that failed is opened again at
+    /// a tick. Without memory nothing changes.
     fn step(&mut self, input: Input) -> Result<Given, StepFail>
         requires ready { ready self.old }
         requires range { InputInRange input }
@@ -46,9 +46,9 @@ pub trait Core {
         ensures given { IfOk result GivenInRange }
         ensures ready { ready self.new };
 
-    /// Several inputs, which are taken one after the other and stored together: each up to the first that finds no memory,
-    /// or to the last. What came of each goes into `results`, where there is room for it; the others are left. Where a
-    /// disk fails nothing of them is given out.
+    /// Several inputs, which are taken one after the other and stored together: each up to the first that
+    /// finds no memory, or to the last. What came of each goes into `results`, where there is room for it;
+    /// the others are left. Where a disk fails nothing of them is given out.
     fn step_all(&mut self, inputs: &mut VecDeque<Input>, results: &mut Vec<Result<Given, StepFail>>)
         requires ready { ready self.old }
         requires inputs { All InputInRange inputs.old.items }

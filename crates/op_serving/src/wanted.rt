@@ -10,6 +10,7 @@ pub enum Wanted {
     Stop(Conn),
     /// Trimming. What becomes of it is told at once at this connection, but for its loss.
     Trim(Conn),
-    /// A read, by its client and its number. It waits for its answer at this connection, or is refused at once.
+    /// A read, by its client and its number. It waits for its answer at this connection, or is refused at
+    /// once.
     Read(Conn, Key),
 }

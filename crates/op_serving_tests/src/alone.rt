@@ -5,8 +5,8 @@ use op_outside::Happening;
 use op_pump::ServeEnd;
 use std::test::Fail;
 
-/// Session 6 begins a request. Session 5 sends the longest body, of zeros, in three reads, and then the head of a
-/// longer one; session 6 ends its request.
+/// Session 6 begins a request. Session 5 sends the longest body, of zeros, in three reads, and then the head
+/// of a longer one; session 6 ends its request.
 const ZEROS_AND_HALVES: &[Step] = &[
     Step::Happens(&[
         Happening::Accepted(5),
@@ -41,7 +41,8 @@ pub const ROWS: &[Row] = &[Row {
     lost: 0,
 }];
 
-/// Runs on which nothing comes, and the calls of the net: three waits without a happening, and a second wait that fails.
+/// Runs on which nothing comes, and the calls of the net: three waits without a happening, and a second wait
+/// that fails.
 const CALLS: [(Row<'static>, usize); 2] = [
     (
         Row {

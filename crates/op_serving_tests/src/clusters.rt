@@ -47,7 +47,8 @@ const ROWS: [Row<'static>; 5] = [
         faults: (0, 0),
         ends: &[],
     },
-    // The third call is the third start: all are started before any is waited for. The first two run, the third doesn't.
+    // The third call is the third start: all are started before any is waited for. The first two run, the
+    // third doesn't.
     Row {
         ids: IDS,
         failing_calls: &[3],
@@ -67,8 +68,8 @@ const ROWS: [Row<'static>; 5] = [
         faults: (1, 0),
         ends: &[(999, Some(255))],
     },
-    // The parts of the first line take 2, 1, 2, 1 and 1 writes: the ninth ends `child ` of the second line, and fails. The third
-    // child isn't waited for.
+    // The parts of the first line take 2, 1, 2, 1 and 1 writes: the ninth ends `child ` of the second line,
+    // and fails. The third child isn't waited for.
     Row {
         ids: IDS,
         failing_calls: &[],

@@ -9,7 +9,8 @@ const TICK: usize = 10;
 /// The turns before the next one, where one turn was taken since.
 const NEXT_TICK: usize = 9;
 
-/// The second call of the put's record on the first disk: nine are made at the opening, and four for each record.
+/// The second call of the put's record on the first disk: nine are made at the opening, and four for each
+/// record.
 const SECOND_OF_PUT: u64 = 9 + 4 + 2;
 
 /// Client 7's first command, which puts `x` at `a`.
@@ -27,8 +28,8 @@ const STATUS: &[u8] = b"C\0\0\0\x01\x04";
 /// It is refused since the node doesn't lead.
 const NOT_LED: &[u8] = b"\0\0\0\x12\0\0\0\0\0\0\0\x07\0\0\0\0\0\0\0\x01\x06\x03";
 
-/// A put meets the fault, and a status is asked for in the same turn. So are both once the next tick has opened the node
-/// again, and once the tick behind that has let it lead.
+/// A put meets the fault, and a status is asked for in the same turn. So are both once the next tick has
+/// opened the node again, and once the tick behind that has let it lead.
 const FAULT_AND_OPENING: &[Step] = &[
     Step::Idles(TICK),
     Step::Happens(&[

@@ -51,8 +51,8 @@ fn add(
     })
 }
 
-/// A sole member is elected, stops inside the step of a put, and is opened again: it finds what it stored before that step or after
-/// it. Elected again, it is sent the same put.
+/// A sole member is elected, stops inside the step of a put, and is opened again: it finds what it stored
+/// before that step or after it. Elected again, it is sent the same put.
 fn stops_in_a_put(alloc: Global, finds_after: bool) -> Result<Happenings, NoMemory>
     ensures { IfOk result (λ happenings. All (λ h. WhatInRange h.event.what) happenings) }
 {

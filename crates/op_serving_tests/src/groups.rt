@@ -1,5 +1,5 @@
-//! Messages of a peer and commands of clients that come in one turn are stored by one commit, whatever is read between
-//! them.
+//! Messages of a peer and commands of clients that come in one turn are stored by one commit, whatever is
+//! read between them.
 use crate::scripts::{Row, Server, Step, Wrote, seen_of};
 use op_outside::Happening;
 use op_pump::ServeEnd;
@@ -47,11 +47,13 @@ const READ: &[u8] = b"C\0\0\0\x13\x06\0\0\0\0\0\0\0\x09\0\0\0\0\0\0\0\x01\x01a";
 /// A request for the status.
 const STATUS: &[u8] = b"C\0\0\0\x01\x04";
 
-/// The calls of the first disk before the put of session 7: nine are made at the opening, and four for each record. The tick
-/// at which node 1 is elected stores its promise, and node 2's promise and the puts of session 6 are a record each.
+/// The calls of the first disk before the put of session 7: nine are made at the opening, and four for each
+/// record. The tick at which node 1 is elected stores its promise, and node 2's promise and the puts of
+/// session 6 are a record each.
 const CALLS_BEFORE: u64 = 9 + 3 * 4;
 
-/// Node 1 leads with node 2, session 6 puts twice, and in one turn node 2 accepts the one and the other, and session 7 puts.
+/// Node 1 leads with node 2, session 6 puts twice, and in one turn node 2 accepts the one and the other, and
+/// session 7 puts.
 const ACCEPTED_AND_PUT: &[Step] = &[
     Step::Happens(&[Happening::Accepted(5), Happening::Readable(5)]),
     Step::Comes(HELLO),
@@ -72,7 +74,8 @@ const ACCEPTED_AND_PUT: &[Step] = &[
     Step::Comes(ACCEPTED),
 ];
 
-/// The same, and between the put and what node 2 accepts session 8 reads: that waits for node 2 to confirm it.
+/// The same, and between the put and what node 2 accepts session 8 reads: that waits for node 2 to confirm
+/// it.
 const ACCEPTED_PUT_AND_READ: &[Step] = &[
     Step::Happens(&[Happening::Accepted(5), Happening::Readable(5)]),
     Step::Comes(HELLO),
@@ -148,8 +151,8 @@ fn what_comes_in_a_turn_is_one_commit(rt: HostRuntime) -> Result<(), Fail> {
     Ok(())
 }
 
-/// The put of session 6 waits for node 2 as a put of session 7 meets a fault. A status is asked for in that turn, and once
-/// the next tick has opened the node again.
+/// The put of session 6 waits for node 2 as a put of session 7 meets a fault. A status is asked for in that
+/// turn, and once the next tick has opened the node again.
 const FAULT_WHILE_ONE_WAITS: &[Step] = &[
     Step::Happens(&[Happening::Accepted(5), Happening::Readable(5)]),
     Step::Comes(HELLO),

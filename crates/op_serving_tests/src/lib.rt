@@ -1,5 +1,5 @@
-//! A node over two disks in memory that serves over a net and a clock in memory, a cluster over a spawner, and runs of the plain
-//! program: tests.
+//! A node over two disks in memory that serves over a net and a clock in memory, a cluster over a spawner,
+//! and runs of the plain program: tests.
 #![tactic(auto)]
 
 #[cfg(test)]

@@ -9,9 +9,10 @@ const STATUS: &[u8] = b"C\0\0\0\x01\x04";
 /// The reply to it.
 const LINE: &[u8] = b"\x0c\0\x23node 1 config 1 decided 0 trimmed 0";
 
-/// The connection of session 3 ends after a write of three bytes. Session 4 sends the greatest head of a client's frame, 5 a message of
-/// no kind, 6 the head of a peer's longest frame, whose body has 1,048,576 bytes, 7 two bytes of a hello, 8 a request in single bytes,
-/// 9 one in one piece, and 10 the head of a peer's frame that is a byte too long.
+/// The connection of session 3 ends after a write of three bytes. Session 4 sends the greatest head of a
+/// client's frame, 5 a message of no kind, 6 the head of a peer's longest frame, whose body has 1,048,576
+/// bytes, 7 two bytes of a hello, 8 a request in single bytes, 9 one in one piece, and 10 the head of a
+/// peer's frame that is a byte too long.
 const MALFORMED: &[Step] = &[
     Step::Happens(&[
         Happening::Accepted(3),

@@ -29,7 +29,8 @@ const TWO_SESSIONS: &[Happening] = &[
     Happening::Readable(7),
 ];
 
-/// Session 6 gets a value of 4096 bytes so often in one turn, in which session 7 puts: nothing is written before its end.
+/// Session 6 gets a value of 4096 bytes so often in one turn, in which session 7 puts: nothing is written
+/// before its end.
 pub const ROWS: &[Row] = &[
     // The most replies wait, and go out.
     Row {

@@ -1,4 +1,5 @@
-//! Reads, each answered without an entry of the log, behind the commands of its own connection that came before it.
+//! Reads, each answered without an entry of the log, behind the commands of its own connection that came
+//! before it.
 use crate::scripts::{Conduct, Row, Server, Step, Wrote, seen_of};
 use op_outside::{Conn, Happening};
 use op_pump::ServeEnd;
@@ -36,7 +37,8 @@ const READS: &[Step] = &[
     Step::Comes(READ_B),
 ];
 
-/// The first call of the first disk in the first tick, and behind it: nine are made at the opening, and four for each record.
+/// The first call of the first disk in the first tick, and behind it: nine are made at the opening, and four
+/// for each record.
 const CALL_OF_TICK: u64 = 9 + 1;
 
 const CALL_AFTER_TICK: u64 = 9 + 4 + 1;

@@ -13,8 +13,8 @@ const CONN: Conn = 5;
 /// The peer.
 const PEER: Pid = 2;
 
-/// So many bytes has a frame that tells how much is decided: its head, two ids, configuration and tag, a ballot
-/// and a length.
+/// So many bytes has a frame that tells how much is decided: its head, two ids, configuration and tag, a
+/// ballot and a length.
 const DECIDE: usize = 8 + 4 + 4 + 4 + 1 + 12 + 8;
 
 /// So many has a heartbeat's request: the same, and a round.

@@ -22,7 +22,8 @@ const MOST: usize = 131_072;
 /// How many bytes a read gives at most.
 const PIECE: usize = 65_536;
 
-/// A client's first byte, the head of the longest body, and that body's zeros, up to so many bytes as a read gives.
+/// A client's first byte, the head of the longest body, and that body's zeros, up to so many bytes as a read
+/// gives.
 fn longest_begun(alloc: Global) -> Result<Vec<u8>, NoMemory> {
     let mut bytes = Vec::from_slice(alloc, b"C\x00\x02\x00\x00")?;
     bytes.resize(PIECE, 0)?;
@@ -139,7 +140,8 @@ pub enum Step<'a> {
     ComesPuts(u64),
     /// A read gives a client's first byte and client 8's first put, of 4096 bytes at `a`.
     ComesLongPut,
-    /// A read gives gets of `a`, of client 7 and the numbers from the one to the other; before number 1 stands a client's first byte.
+    /// A read gives gets of `a`, of client 7 and the numbers from the one to the other; before number 1
+    /// stands a client's first byte.
     ComesGets(u64, u64),
     /// A write takes so much.
     Takes(Took),

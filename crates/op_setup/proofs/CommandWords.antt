@@ -8,7 +8,7 @@ use Rattle.op_types.specs.declared.events.Request.TheVariants as request
 use Rattle.op_types.specs.declared.read.Read.{Read}
 use Rattle.op_text.specs.Operations.{op_name, operands}
 use Rattle.op_text.proofs.Operations.{after_first}
-use Rattle.op_text.specs.Operations.{AreOperands, AreOperandsOf, IsReadOf}
+use Rattle.op_text.specs.Operations.{AreOperands, AreOperandsOf}
 use Rattle.op_text.proofs.WriteWords.{IsSomeKey, IsSomeValue}
 use Rattle.op_text.specs.Percent.{IsEncoded, encoded}
 use Rattle.op_setup.specs.Tasks.{IsRequest}
@@ -111,10 +111,6 @@ whole_read now ws d0 d1 client seq low hc hs e0 e1 (key, h) =
     let words = two_and_more now ws d0 d1 (decimal client) (decimal seq) low e0 e1 in
     let rest : map now (drop 2 ws) ≡ encoded key ∷ [] = rw all at h.2 in
     (record { client = client; seq = seq; key = key }, record { in_range = record { client = hc; seq = hs; key = h.0 }; of_bytes = h.1; written = cc (words, rest) })
-
--- fewer words are none's
-pub no_short_read : {A : Type 0} (now : A → List ℕ) (ws : List A) → length ws < 2 → (r : Read) → IsReadOf (map now ws) r → ⊥
-no_short_read now ws short r h = omega (arith, short, sym (length-map ws now) ∙ ap length h.written)
 
 -- a read's words behind `read` are a request's
 pub read_request : (words : List (List ℕ)) → IsRead words → IsRequest (codes "read" ∷ words)

@@ -69,7 +69,8 @@ fn cluster<'a>(alloc: Global) -> Command<'a>
     Command::new(alloc, "cluster")
 }
 
-/// The command `drill`, with a seed and a number of events, or the flag `--links`, a scenario's name and a number of rounds.
+/// The command `drill`, with a seed and a number of events, or the flag `--links`, a scenario's name and a
+/// number of rounds.
 fn drill<'a>(alloc: Global) -> Result<Command<'a>, AllocError>
     ensures app { IfOk result (λ c. app_of c ≡ drill_app) }
     ensures local { IfOk result (λ c. (fields_of c).has_globals ≡ false) }

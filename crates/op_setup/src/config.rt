@@ -48,7 +48,7 @@ pub struct Settings {
     /// At how many decided entries that are not trimmed, from 1 to 10^12, the leader trims by itself, behind
     /// a tick. None: it trims only where it is asked to.
     pub trim_every: Option<u64>,
-    /// The name of the cluster, of 1 to 64 letters, digits, `.` or `_`, which a node's folder has to say, too.
-    /// None: nothing is asked of the folder.
+    /// The name of the cluster, of 1 to 64 letters, digits, `.` or `_`, which a node's folder has to say,
+    /// too. None: nothing is asked of the folder.
     pub cluster: Option<Blob>,
 }

@@ -8,7 +8,8 @@ ghost use Rattle.op_setup.specs.Causes.{IsFirstCause};
 ghost use Rattle.op_setup.specs.Identities.{IsIdentity};
 ghost use Rattle.op_setup.specs.Tasks.{DrillsLinks, IsTaskOf, has_flag};
 
-/// No two tasks have the same words, and words of which one begins with `-` are no other task's than a drill's of links.
+/// No two tasks have the same words, and words of which one begins with `-` are no other task's than a
+/// drill's of links.
 pub fn words_are_unambiguous()
     ensures one { (words : List (List ℕ)) (s t : Task) → IsTaskOf words s → IsTaskOf words t → s ≡ t }
     ensures flag { (words : List (List ℕ)) (t : Task) → IsTrue (has_flag words) → IsTaskOf words t →

@@ -8,7 +8,8 @@ use crate::arguments::bytes;
 use op_text::pid;
 use op_types::{MOST_MEMBERS, Members, NoMemory, Pid};
 
-/// The members whose ids the words are, each above the one before it. Memory is taken only for words that are such.
+/// The members whose ids the words are, each above the one before it. Memory is taken only for words that are
+/// such.
 pub fn members(words: &[String]) -> Result<Option<Members>, NoMemory>
     ensures found { IfOk result (IsFound (AreMembersOf (map string_bytes words.now))) }
     ensures memory { IfErr result (λ _. AreMembers (map string_bytes words.now)) }

@@ -1,4 +1,5 @@
-//! A client's operations. Each reads the words after its command's number, and takes memory only where they are its own.
+//! A client's operations. Each reads the words after its command's number, and takes memory only where they
+//! are its own.
 ghost use Rattle.std.specs.Prelude.{map, codes, string_bytes, IfOk, IfErr};
 ghost use Rattle.op_text.specs.Found.{IsFound};
 ghost use Rattle.op_text.specs.Operations.{AreKeyOnly, AreOperands, AreOperandsOf};

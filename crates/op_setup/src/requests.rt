@@ -12,7 +12,8 @@ use op_text::client_number;
 use op_types::{Command, NoMemory, Read, Request, Shared};
 use std::alloc::Global;
 
-/// The command of an operation of this name: a client, the number of its command, and the operation's own words.
+/// The command of an operation of this name: a client, the number of its command, and the operation's own
+/// words.
 fn command(alloc: Global, name: &str, words: &[String]) -> Result<Option<Command>, NoMemory>
     ensures found { IfOk result (IsFound (IsCommandOf (name.now ∷ map string_bytes words.now))) }
     ensures memory { IfErr result (λ _. IsCommand (name.now ∷ map string_bytes words.now)) }

@@ -63,18 +63,10 @@ few_new : (bytes : List ℕ) (closed : Bool) → length bytes ≤ 1 → IsNew []
 few_new bytes true few new = let long : 2 ≤ 0 = new.0 in absurd (omega arith)
 few_new bytes false few new = few
 
-few_formattable : (bytes : List ℕ) (closed : Bool) → length bytes ≤ 1 → IsFormattable [] closed → IsFormattable bytes closed
-few_formattable bytes true few new = let long : 2 ≤ 0 = new.0 in absurd (omega arith)
-few_formattable bytes false few new = inl few
-
 module _ (bytes read : List ℕ) (r : IsReading bytes read) where
   new_in : (closed : Bool) → IsNew read closed → IsNew bytes closed
   new_in closed new =
       ⊎_elim (λ few. few_new bytes closed few.0 (subst (λ (l : List ℕ). IsNew l closed) few.1 new)) (λ all. subst (λ (l : List ℕ). IsNew l closed) all.1 new) r
-
-  formattable_in : (closed : Bool) → IsFormattable read closed → IsFormattable bytes closed
-  formattable_in closed h =
-      ⊎_elim (λ few. few_formattable bytes closed few.0 (subst (λ (l : List ℕ). IsFormattable l closed) few.1 h)) (λ all. subst (λ (l : List ℕ). IsFormattable l closed) all.1 h) r
 
   -- what has more than a byte was read
   all_of : 2 ≤ length read → read ≡ bytes
@@ -106,31 +98,12 @@ module _ (bytes read : List ℕ) (r : IsReading bytes read) where
   unread_in : IsUnread read → IsUnread bytes
   unread_in h = (no_header_in h.0, λ version n. h.1 version (newer_back version n))
 
-  area_header : (g : Head) (end base : ℕ) (d : Durable) → IsAreaFor g end base d read → HasHeader g read
-  area_header g end base d a = header_of g a.bodies read a.area.records
-
-  area_in : (g : Head) (end base : ℕ) (d : Durable) → IsAreaFor g end base d read → IsAreaFor g end base d bytes
-  area_in g end base d a = subst (λ (l : List ℕ). IsAreaFor g end base d l) (headed g (area_header g end base d a)) a
-
-  area_len : (g : Head) (end base : ℕ) (d : Durable) → IsAreaFor g end base d read → length read ≡ length bytes
-  area_len g end base d a = ap length (headed g (area_header g end base d a))
-
   stops_in : (g : Head) (at : ℕ) → HasHeader g read → BreaksIn g read at → BreaksIn g bytes at
   stops_in g at h stops = subst (λ (l : List ℕ). BreaksIn g l at) (headed g h) stops
 
 -- ---- the same of two disks
 
 module _ (x y a b : List ℕ) (one : IsReading x a) (two : IsReading y b) where
-  pub read_in : (r : Reading) → IsRead a b r → IsRead x y r
-  read_in (reading.New closed closed_other) h = (new_in x a one closed h.0, new_in y b two closed_other h.1)
-  read_in (reading.Area false g d end base closed) h = (area_in x a one g end base d h.0, below_in y b two (g.generation + 1) h.1, formattable_in y b two closed h.2, h.3)
-  read_in (reading.Area true g d end base closed) h = (area_in y b two g end base d h.0, below_in x a one g.generation h.1, formattable_in x a one closed h.2, h.3)
-
-  -- all of the chosen area was read
-  pub chosen_len : (is_second : Bool) (g : Head) (end base : ℕ) (d : Durable) → IsAreaFor g end base d (chosen is_second a b) → length (chosen is_second a b) ≡ length (chosen is_second x y)
-  chosen_len false g end base d h = area_len x a one g end base d h
-  chosen_len true g end base d h = area_len y b two g end base d h
-
   stops_chosen : (is_second : Bool) (g : Head) (at : ℕ) → IsChosen is_second g a b → BreaksIn g (chosen is_second a b) at → IsChosen is_second g x y × BreaksIn g (chosen is_second x y) at
   stops_chosen false g at c stops =
       (record { header = subst (λ (l : List ℕ). HasHeader g l) (headed x a one g c.header) c.header; below = below_in y b two (g.generation + 1) c.below }, stops_in x a one g at c.header stops)

@@ -75,8 +75,8 @@ pub struct OpenArea {
     pub is_new: bool,
 }
 
-/// Opens the areas of two disks: both are read, and what lies after the chosen one is cut. Where there is none, the first
-/// is begun, of the fresh durable state.
+/// Opens the areas of two disks: both are read, and what lies after the chosen one is cut. Where there is
+/// none, the first is begun, of the fresh durable state.
 pub fn open_areas<D: Disk>(
     alloc: Global,
     fresh: Durable,
@@ -227,7 +227,8 @@ fn resume<D: Disk>(
     }
 }
 
-/// Cuts what lies after the chosen area's closed gate at this byte offset, of a disk that holds so many bytes.
+/// Cuts what lies after the chosen area's closed gate at this byte offset, of a disk that holds so many
+/// bytes.
 fn trim<D: Disk>(
     first: &mut D,
     second: &mut D,
@@ -258,8 +259,8 @@ fn trim<D: Disk>(
     Journal::trim_after(first, end, len)
 }
 
-/// Carries an area of the first version over: cuts what lies after its closed gate, of a disk that holds so many
-/// bytes, and begins the other area with its durable state, of the next generation.
+/// Carries an area of the first version over: cuts what lies after its closed gate, of a disk that holds so
+/// many bytes, and begins the other area with its durable state, of the next generation.
 fn carry_over<D: Disk>(
     alloc: Global,
     first: &mut D,

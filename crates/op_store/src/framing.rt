@@ -12,8 +12,8 @@ use op_record::{put_whole, put_whole_behind};
 use op_types::{Durable, Entry, NoMemory};
 use std::alloc::Global;
 
-/// Lays a durable state out as the record that an area begins with. The room that is reserved in it is no matter. It fails
-/// where no memory is found for its bytes.
+/// Lays a durable state out as the record that an area begins with. The room that is reserved in it is no
+/// matter. It fails where no memory is found for its bytes.
 pub fn framed_whole(alloc: Global, durable: &Durable) -> Result<Framed, NoMemory>
     requires { DurableInRange (with_room no_needs durable.now) }
     ensures { IfOk result (IsBodyOf (Whole (with_room no_needs durable.now))) }
@@ -23,8 +23,8 @@ pub fn framed_whole(alloc: Global, durable: &Durable) -> Result<Framed, NoMemory
     Framed::finish(bytes)
 }
 
-/// The same, of the durable state after a batch that isn't adopted yet: it appends these entries, and then so much is
-/// decided, if that is named.
+/// The same, of the durable state after a batch that isn't adopted yet: it appends these entries, and then so
+/// much is decided, if that is named.
 pub fn framed_behind(
     alloc: Global,
     durable: &Durable,

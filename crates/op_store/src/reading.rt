@@ -106,8 +106,8 @@ fn is_stuck(head: Head) -> bool
     }
 }
 
-/// What the records after a header make, from the first one on, the byte offset of the closed gate after them, and the
-/// area's length with the first of them alone.
+/// What the records after a header make, from the first one on, the byte offset of the closed gate after
+/// them, and the area's length with the first of them alone.
 fn durable_of(
     alloc: Global,
     version: Version,
@@ -208,7 +208,8 @@ fn whole_in(said: Rec) -> Option<Durable>
     }
 }
 
-/// What the step that a record says makes of a durable state, or none where it doesn't apply or the record says none.
+/// What the step that a record says makes of a durable state, or none where it doesn't apply or the record
+/// says none.
 fn after_step(durable: Durable, said: Rec) -> Result<Option<Durable>, NoMemory>
     requires { IsAtRest durable }
     ensures applied { IfOk result (λ o. IfSome o (λ d. (batch : List Change) ×

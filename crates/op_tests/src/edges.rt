@@ -105,7 +105,8 @@ fn first_answered<D: Disk>(disk: &mut D) -> Option<usize> {
     None
 }
 
-/// Whether the file at this path, which is absent, is used as a disk, and another disk on it then answers no call.
+/// Whether the file at this path, which is absent, is used as a disk, and another disk on it then answers no
+/// call.
 fn is_held_at(rt: &HostRuntime, path: &str) -> Result<bool, AllocError> {
     let mut first = FileDisk::new(rt, PathBuf::from_str(rt.alloc(), path)?);
     let mut second = FileDisk::new(rt, PathBuf::from_str(rt.alloc(), path)?);
@@ -256,7 +257,8 @@ fn first_wrong<N: Net>(server: &mut N, client: &mut N, (near, far): (Conn, Conn)
     None
 }
 
-/// The first step of the talk that goes otherwise, and the dialling net's faults; None where there is no connection.
+/// The first step of the talk that goes otherwise, and the dialling net's faults; None where there is no
+/// connection.
 fn talk<N: Net>(server: &mut N, client: &mut N) -> Option<(Option<usize>, u64)> {
     let addr = listen(server)?;
     let conns = accepted(server, client, &addr)?;
@@ -320,8 +322,8 @@ const CLOSED: Addr = Addr {
     port: 1,
 };
 
-/// Whether a connection whose bytes don't move ends with no room, and a dial to a port where nobody listens at once, without a
-/// fault; None where there is no connection.
+/// Whether a connection whose bytes don't move ends with no room, and a dial to a port where nobody listens
+/// at once, without a fault; None where there is no connection.
 fn ends_stuck<N: Net, M: Net>(server: &mut N, client: &mut M) -> Option<bool> {
     let addr = listen(server)?;
     let near = opened(client, &addr)?;
@@ -342,7 +344,8 @@ fn a_connection_that_is_stuck_ends(rt: HostRuntime) {
 /// How long written bytes go unmoved, in milliseconds. Two clocks may differ by one.
 const UNMOVED_MILLIS: u64 = 2000;
 
-/// The first connection that has ended. Each is read whenever it can be read, and filled whenever it has room.
+/// The first connection that has ended. Each is read whenever it can be read, and filled whenever it has
+/// room.
 fn first_end<N: Net>(net: &mut N) -> Result<Conn, NetFail> {
     for _ in 0..50u32 {
         match next(net)? {
@@ -374,8 +377,8 @@ fn is_within(millis: Option<u64>, bound: u64) -> bool {
     }
 }
 
-/// How many milliseconds it takes until a dialled connection has ended that is filled; None where it isn't the first to end, or a
-/// net fails.
+/// How many milliseconds it takes until a dialled connection has ended that is filled; None where it isn't
+/// the first to end, or a net fails.
 fn unmoved<N: Net, C: Clock>(net: &mut N, clock: &mut C, addr: &Addr) -> Option<u64> {
     let begin = clock.millis();
     let conn = net.dial(addr).ok()?;
@@ -429,7 +432,8 @@ fn starts_absent(rt: &HostRuntime) -> Result<(bool, u64), AllocError> {
     Ok((nobody.start(8, b"").is_ok(), nobody.faults()))
 }
 
-/// The shell runs the script `node` of the folder `n7`, which ends with the number that it is given and the program's id.
+/// The shell runs the script `node` of the folder `n7`, which ends with the number that it is given and the
+/// program's id.
 #[test]
 fn a_child_runs_in_its_folder(rt: HostRuntime) -> Result<(), Fail> {
     fs::create_dir(&rt, "n7")?;

@@ -43,7 +43,8 @@ fn say<N: Net>(net: &mut N, addr: &Addr, bytes: &[u8]) -> Option<Conn> {
     Some(conn)
 }
 
-/// The connection that comes, and what is read of it: it is closed if it has ended, and else nothing more is there.
+/// The connection that comes, and what is read of it: it is closed if it has ended, and else nothing more is
+/// there.
 fn hear<N: Net>(net: &mut N) -> Option<(Conn, Got)> {
     let Happening::Accepted(conn) = next(net)? else {
         return None;

@@ -4,7 +4,7 @@ use Rattle.std.proofs.Common.{◌≡◌, ℕ, ◌<◌, ◌≤◌, Bool, false, I
 use Rattle.std.specs.List.{flat_map}
 use Rattle.std.proofs.lemmas.Bool.{false≢true}
 use Rattle.std.proofs.lemmas.List.{flat_map_more, length-map}
-use Rattle.std.proofs.lemmas.List.Elements.{All-head, All-nil, All-push, All-same, All-tail}
+use Rattle.std.proofs.lemmas.List.Elements.{All-head, All-push, All-same, All-tail}
 use Rattle.std.proofs.lemmas.Slice.Eq.{bytes_eq-Decides}
 use Rattle.op_types.specs.Limits.{most_writes}
 use Rattle.op_types.specs.Ranges.{IsKey, IsValue, WriteInRange, WritesInRange}
@@ -113,15 +113,6 @@ pub record AreReadTo (ws : List Write) (rest words : List (List ℕ)) : Type 0 w
   pub in_range : All WriteInRange ws
   pub of_bytes : All WriteIsOfBytes ws
   pub read : flat_map write_words ws ++ rest ≡ words
-
--- nothing is read
-pub read_nothing : (ws : List Write) (words : List (List ℕ)) → ws ≡ [] → AreReadTo ws words words
-read_nothing ws words none =
-    record {
-      in_range = All-same WriteInRange ws [] none (All-nil WriteInRange);
-      of_bytes = All-same WriteIsOfBytes ws [] none (All-nil WriteIsOfBytes);
-      read = rw none refl;
-    }
 
 -- one write more is read
 pub read_more : (ws more : List Write) (w : Write) (rest first after words : List (List ℕ)) → AreReadTo ws rest words → IsWriteOf first w → rest ≡ first ++ after → more ≡ ws ++ w ∷ [] → AreReadTo more after words

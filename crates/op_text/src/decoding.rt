@@ -70,7 +70,8 @@ fn all_bytes(alloc: Global, word: &[u8]) -> Result<Option<Blob>, NoMemory>
     Ok(Some(Blob::from_vec(bytes)?))
 }
 
-/// The bytes that a key's or a value's word encodes, however many they are; `None` where the word is no encoding.
+/// The bytes that a key's or a value's word encodes, however many they are; `None` where the word is no
+/// encoding.
 pub fn bytes_of(alloc: Global, word: &str) -> Result<Option<Blob>, NoMemory>
     ensures { IfOk result (IsFound (IsEncoded word.now)) }
 {
@@ -88,8 +89,8 @@ fn decode_percent(alloc: Global, word: &[u8]) -> Result<Option<Blob>, NoMemory>
     }
 }
 
-/// The bytes that a word encodes, if there are from `least` to `most`. A word that is too long for them takes no
-/// memory.
+/// The bytes that a word encodes, if there are from `least` to `most`. A word that is too long for them takes
+/// no memory.
 fn bytes_within(
     alloc: Global,
     word: &[u8],
@@ -106,8 +107,8 @@ fn bytes_within(
     decoded_within(alloc, word, least, most)
 }
 
-/// The bytes that a word encodes, with or without escapes, if there are from `least` to `most`. A word that is too long
-/// for them takes no memory.
+/// The bytes that a word encodes, with or without escapes, if there are from `least` to `most`. A word that
+/// is too long for them takes no memory.
 #[inline(never)]
 fn decoded_within(
     alloc: Global,

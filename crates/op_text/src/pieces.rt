@@ -26,8 +26,8 @@ pub fn answer_text(alloc: Global, answer: &Answer) -> Result<Vec<u8>, NoMemory>
     Ok(text)
 }
 
-/// What a proposal is answered at once, as the report's `answer` lines have it. `NoMemory` comes only where the
-/// allocator has none.
+/// What a proposal is answered at once, as the report's `answer` lines have it. `NoMemory` comes only where
+/// the allocator has none.
 pub fn outcome_text(alloc: Global, outcome: &Outcome) -> Result<Vec<u8>, NoMemory>
     ensures { IfOk result (λ text. text.items ≡ outcome_text outcome.now) }
 {

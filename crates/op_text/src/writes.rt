@@ -128,7 +128,8 @@ fn are_writes<W: AsSlice<u8>>(words: &[W]) -> bool
     0 < count
 }
 
-/// The `many` of the writes that these words are, one after the other. Memory is taken only for words that are such.
+/// The `many` of the writes that these words are, one after the other. Memory is taken only for words that
+/// are such.
 pub fn many_operation<W: AsSlice<u8>>(alloc: Global, words: &[W]) -> Result<Option<Op>, NoMemory>
     ensures found { IfOk result (IsFound (AreOperandsOf (codes "many") (map W.items words.now))) }
     ensures memory { IfErr result (λ _. AreOperands (codes "many") (map W.items words.now)) }

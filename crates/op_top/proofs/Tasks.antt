@@ -224,11 +224,6 @@ module _ {D : Type 0} (disk : Ghosts D) (words : List (List ℕ)) (old new : Out
         task = λ other is. inl (subst (λ (x : Task). DoesTask disk x old new s lost) (one_task words t other of is) did);
       }
 
-  -- they ask for none
-  does_nothing : (IsTask words → ⊥) → s ≡ status.Usage → new ≡ old → lost ≡ [] → Does disk words old new s lost
-  does_nothing none is same no_loss =
-      record { usage_only_if = λ _. none; usage_always = λ _. (is, (same, no_loss)); task = λ t of. absurd (none (t, of)) }
-
   -- there is no memory for them
   lacks_memory : ((IsTask words → ⊥) → ⊥) → s ≡ status.NoMemory → new ≡ old → lost ≡ [] → Does disk words old new s lost
   lacks_memory some is same no_loss =
@@ -275,13 +270,6 @@ module _ {D : Type 0} (disk : Ghosts D) (words : List (List ℕ)) (disks a : Nod
   does_cluster net clock in0 in1 out0 out1 children0 children1 of did =
       rw (at_disks, is, no_loss)
       (does_task disk words (outside disks net clock in0 out0 children0) (outside disks net clock in1 out1 children1) r [] Cluster of (did, refl, refl))
-
-  -- they ask for none
-  pub is_usage : (net : NetSeen) (clock : Option (List ℕ)) (input out : StreamSeen) (children : SpawnerSeen) → (IsTask words → ⊥) → r ≡ status.Usage
-      → Does disk words (outside disks net clock input out children) (outside a net clock input out children) s lost
-  is_usage net clock input out children none usage =
-      rw (at_disks, is, no_loss)
-      (let same = outside disks net clock input out children in does_nothing disk words same same r [] none usage refl refl)
 
   -- there is no memory for them
   pub has_no_memory : (net : NetSeen) (clock : Option (List ℕ)) (input out : StreamSeen) (children : SpawnerSeen) → ((IsTask words → ⊥) → ⊥) → r ≡ status.NoMemory

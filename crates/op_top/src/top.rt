@@ -13,8 +13,9 @@ use op_setup::{Task, TaskFail, task};
 use op_status::Status;
 use std::alloc::Global;
 
-/// Does what the words ask, and answers how it ended. The status's line is told to `err` with no memory taken; a write to
-/// it that fails changes no status. The disks are a node's, and are handed back; the child programs are a cluster's.
+/// Does what the words ask, and answers how it ended. The status's line is told to `err` with no memory
+/// taken; a write to it that fails changes no status. The disks are a node's, and are handed back; the child
+/// programs are a cluster's.
 pub fn omni<D: Disk, N: Net, C: Clock, S: Source, K: Sink, P: Spawner>(
     alloc: Global,
     words: &[String],

@@ -16,7 +16,8 @@ use op_plans::{Member, first};
 use op_types::{Ballot, Batch, Body, Leading, Outcome, Pid, Plan, Replies, Role, Turn};
 use std::alloc::AllocError as NoMemory;
 
-/// A client asks for trimming: a leader asks the others anew what they have decided, and trims at once where there are none.
+/// A client asks for trimming: a leader asks the others anew what they have decided, and trims at once where
+/// there are none.
 pub fn trim_now(member: &Member, role: &Role) -> Result<Plan, NoMemory>
     ensures row { IfOk result (λ plan. effects_of role.now plan
         ≡ trim_now member.now.me member.now.part.now (role_of role.now)) }

@@ -13,8 +13,8 @@ use op_plans::Member;
 use op_types::{Ballot, Leading, Pid, Plan, Report, Role, Turn, reported_by};
 use std::alloc::{AllocError as NoMemory, Global};
 
-/// A follower has decided so much. Once all others have reported, the least of what they and this node have decided is
-/// trimmed, and the reports are used up.
+/// A follower has decided so much. Once all others have reported, the least of what they and this node have
+/// decided is trimmed, and the reports are used up.
 pub fn on_progress(
     member: &Member,
     role: &mut Role,

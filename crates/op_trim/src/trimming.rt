@@ -12,7 +12,8 @@ use op_plans::{Member, one};
 use op_types::{Batch, Blob, Body, Change, Plan, Role};
 use std::alloc::{AllocError as NoMemory, Global};
 
-/// All members have decided so much: it is trimmed, where it isn't yet and where this node has decided it too.
+/// All members have decided so much: it is trimmed, where it isn't yet and where this node has decided it
+/// too.
 pub fn on_trim(member: &Member, role: &Role, x: u64) -> Result<Plan, NoMemory>
     ensures row { IfOk result (λ plan.
         effects_of role.now plan ≡ on_trim member.now.part.now (role_of role.now) x) }

@@ -1,7 +1,7 @@
 -- How entries are cut into runs: none is empty, and one behind the other they are the entries.
-use Rattle.std.proofs.Common.{◌≡◌, ℕ, ◌+◌, ◌<◌, ◌≤◌, false, List, [], ◌∷◌, ◌++◌, length, refl, sym, ap, ◌∙◌, subst, arith, Some, append_assoc, length-append, append-nil}
+use Rattle.std.proofs.Common.{◌≡◌, ℕ, ◌+◌, ◌<◌, ◌≤◌, false, List, [], ◌∷◌, ◌++◌, length, refl, ap, ◌∙◌, subst, arith, Some, append_assoc, length-append}
 use Rattle.std.specs.Prelude.{nat_le, slice_get}
-use Rattle.std.proofs.lemmas.Bool.{cond_both, true≢false, leb-true, leb-false}
+use Rattle.std.proofs.lemmas.Bool.{cond_both, true≢false, leb-true}
 use Rattle.op_types.specs.declared.log.Entry.{Entry}
 use Rattle.op_types.specs.Limits.{most_part_bytes}
 use Rattle.op_types.specs.Cutting.{entry_size, entries_size, cut_behind, cut}
@@ -88,18 +88,3 @@ behind_fits (e ∷ run) used (d ∷ es) is low fits =
 -- where each entry fits into a part, so does each run of the cut
 pub cut_fits : (es : List Entry) → EachFits es → RunsFit (cut es)
 cut_fits es fits = behind_fits [] 0 es refl (omega arith) fits
-
--- ---- entries that fit into one part
-
-behind_short : (run : List Entry) (used : ℕ) (es : List Entry) → 0 < length run → used ≡ entries_size run → used + entries_size es ≤ most_part_bytes → cut_behind run used es ≡ (run ++ es) ∷ []
-behind_short [] used es some_ is low = absurd (omega (arith, some_))
-behind_short (e ∷ run) used [] some_ is low = ap (λ (l : List Entry). l ∷ []) (sym (append-nil (e ∷ run)))
-behind_short (e ∷ run) used (d ∷ es) some_ is low =
-    cond_both (nat_le (used + entry_size d) most_part_bytes) (cut_behind (e ∷ run ++ d ∷ []) (used + entry_size d) es) ((e ∷ run) ∷ cut_behind (d ∷ []) (entry_size d) es) (λ (c : List (List Entry)). c ≡ (e ∷ run ++ d ∷ es) ∷ [])
-    (λ c. behind_short (e ∷ run ++ d ∷ []) (used + entry_size d) es (omega arith) (omega (arith, is, size_more run d)) (omega (arith, low)) ∙ ap (λ (l : List Entry). l ∷ []) (append_assoc (e ∷ run) (d ∷ []) es))
-    (λ c. absurd (omega (arith, low, leb-false (used + entry_size d) most_part_bytes c)))
-
--- they are one run
-pub cut_short : (es : List Entry) → 0 < length es → entries_size es ≤ most_part_bytes → cut es ≡ es ∷ []
-cut_short [] some_ low = absurd (omega (arith, some_))
-cut_short (e ∷ es) some_ low = behind_short (e ∷ []) (entry_size e) es (omega arith) (omega arith) (omega (arith, low))

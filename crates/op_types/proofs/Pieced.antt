@@ -1,7 +1,6 @@
 -- What came of a base: the places that have their bytes.
-use Rattle.std.proofs.Common.{◌≡◌, ℕ, zero, suc, ◌+◌, ◌<◌, ◌≤◌, ◌&&◌, Bool, true, false, List, [], ◌∷◌, ◌++◌, length, take, drop, get_or, set, Option, Some, None, refl, sym, ap, ◌∙◌, subst, arith, append_assoc, append-nil}
+use Rattle.std.proofs.Common.{◌≡◌, ℕ, zero, suc, ◌+◌, ◌<◌, ◌≤◌, ◌&&◌, Bool, true, false, List, [], ◌∷◌, ◌++◌, length, take, drop, get_or, set, Option, Some, None, refl, sym, ap, ◌∙◌, subst, arith}
 use Rattle.std.specs.Prelude.{is_some}
-use Rattle.std.proofs.lemmas.List.{drop_more, drop_all}
 use Rattle.op_types.specs.Stages.{kept_or, bytes_with, bytes_with_at, with_byte, whole_bytes}
 
 abbrev Places : Type 0
@@ -50,44 +49,9 @@ abbrev pub behind : List ℕ → Option (List ℕ) → Option (List ℕ)
 behind bytes None = None
 behind bytes (Some rest) = Some (bytes ++ rest)
 
-one_more : (bytes : List ℕ) (b : ℕ) (w : Option (List ℕ)) → behind bytes (with_byte (Some b) w) ≡ behind (bytes ++ b ∷ []) w
-one_more bytes b None = refl
-one_more bytes b (Some rest) = ap (λ (l : List ℕ). Some l) (sym (append_assoc bytes (b ∷ []) rest))
-
-here : (held : Places) (i : ℕ) (o : Option ℕ) → i < length held → o ≡ get_or held i o → drop i held ≡ o ∷ drop (i + 1) held
-here held i o lt is = drop_more held i o lt ∙ ap (λ (x : Option ℕ). x ∷ drop (i + 1) held) (sym is)
-
-pub behind_more : (held : Places) (i : ℕ) (bytes : List ℕ) (b : ℕ) → i < length held → Some b ≡ get_or held i (Some b)
-    → whole_bytes held ≡ behind bytes (whole_bytes (drop i held)) → whole_bytes held ≡ behind (bytes ++ b ∷ []) (whole_bytes (drop (i + 1) held))
-behind_more held i bytes b lt is so =
-    so ∙ ap (λ (l : Places). behind bytes (whole_bytes l)) (here held i (Some b) lt is) ∙ one_more bytes b (whole_bytes (drop (i + 1) held))
-
-pub behind_missing : (held : Places) (i : ℕ) (bytes : List ℕ) → i < length held → None ≡ get_or held i None
-    → whole_bytes held ≡ behind bytes (whole_bytes (drop i held)) → whole_bytes held ≡ None
-behind_missing held i bytes lt is so = so ∙ ap (λ (l : Places). behind bytes (whole_bytes l)) (here held i None lt is)
-
-pub behind_all : (held : Places) (i : ℕ) (bytes : List ℕ) → length held ≤ i → whole_bytes held ≡ behind bytes (whole_bytes (drop i held)) → whole_bytes held ≡ Some bytes
-behind_all held i bytes le so =
-    so ∙ ap (λ (l : Places). behind bytes (whole_bytes l)) (drop_all i held le) ∙ ap (λ (l : List ℕ). Some l) (append-nil bytes)
-
-pub behind_first : (held : Places) → whole_bytes held ≡ behind [] (whole_bytes held)
-behind_first held = by (whole_bytes held)
-  where
-    by : (w : Option (List ℕ)) → w ≡ behind [] w
-    by None = refl
-    by (Some rest) = refl
-
 some_with : (b : ℕ) (w : Option (List ℕ)) → is_some (with_byte (Some b) w) ≡ is_some w
 some_with b None = refl
 some_with b (Some rest) = refl
-
-pub some_more : (held : Places) (i : ℕ) (o : Option ℕ) → i < length held → o ≡ get_or held i o → is_some o ≡ true → is_some (whole_bytes (drop i held)) ≡ is_some (whole_bytes (drop (i + 1) held))
-some_more held i None lt is so = absurd cc
-some_more held i (Some b) lt is so = ap (λ (l : Places). is_some (whole_bytes l)) (here held i (Some b) lt is) ∙ some_with b (whole_bytes (drop (i + 1) held))
-
-pub some_missing : (held : Places) (i : ℕ) (o : Option ℕ) → i < length held → o ≡ get_or held i o → is_some o ≡ false → is_some (whole_bytes (drop i held)) ≡ false
-some_missing held i None lt is so = ap (λ (l : Places). is_some (whole_bytes l)) (here held i None lt is)
-some_missing held i (Some b) lt is so = absurd cc
 
 -- where a byte is missing, not all are there
 pub one_missing : (held : Places) (i : ℕ) (o : Option ℕ) → i < length held → get_or held i o ≡ None → is_some (whole_bytes held) ≡ false

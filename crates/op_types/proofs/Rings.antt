@@ -1,7 +1,7 @@
 -- Entries that come to a ring: what was passed and what is left, read as one list, is what is held.
 use Rattle.std.proofs.Common.{◌≡◌, ℕ, zero, suc, ◌+◌, ◌-◌, ◌<◌, ◌≤◌, true, false, List, [], ◌∷◌, ◌++◌, length, take, drop, sym, ap, ◌∙◌, subst, append_assoc, arith}
 use Rattle.std.proofs.lemmas.Bool.{ltb-true, ltb-false, eqb-true, eqb-false}
-use Rattle.std.proofs.lemmas.List.{take-append-le, drop-append-le, length-append, take_all, drop_all}
+use Rattle.std.proofs.lemmas.List.{take-append-le, drop-append-le, length-append}
 use Rattle.op_types.specs.declared.log.Entry.{Entry}
 use Rattle.op_types.specs.Rises.{AreAbove, Rises}
 use Rattle.op_types.specs.Rings.{is_first_below, is_first_at, AreBelow, AreFrom, IsPassed, unrolled, Merging}
@@ -31,15 +31,6 @@ pub record Passing (old : Placed) (place : ℕ) (ring : Placed) (left : ℕ) : T
   pub items : unrolled left ring ≡ old
   pub within : left ≤ length ring
   pub below : AreBelow place (drop left ring)
-
-pub passing_first : (old : Placed) (place n : ℕ) → n ≡ length old → Passing old place old n
-passing_first old place n size =
-    let none : drop n old ≡ [] = drop_all n old (omega arith) in
-    record {
-      items = ap (λ (l : Placed). l ++ take n old) none ∙ take_all n old (omega arith);
-      within = omega arith;
-      below = subst (λ (l : Placed). AreBelow place l) (sym none) tt;
-    }
 
 pub passing_next : (old : Placed) (place : ℕ) (ring new : Placed) (left : ℕ) → Passing old place ring left → 0 < left → is_first_below ring place ≡ true → new ≡ drop 1 ring ++ take 1 ring
     → Passing old place new (left - 1)
@@ -80,16 +71,6 @@ passed_all old place ring left rises p none =
     }
 
 -- ---- entries come
-
-pub merging_first : (old : Placed) (place : ℕ) (ring : Placed) (left : ℕ) (entries : List Entry) → Rises old → IsPassed old place ring left → Merging ring left place entries (held_with old place entries)
-merging_first old place ring left entries rises p =
-    record {
-      rises = subst (λ (l : Placed). Rises l) (sym p.items) rises;
-      within = p.within;
-      below = p.below;
-      from = p.from;
-      total = ap (λ (l : Placed). held_with l place entries) p.items;
-    }
 
 -- the first one that is left holds the position, and is passed
 pub merging_kept : (ring new : Placed) (left place : ℕ) (e : Entry) (rest : List Entry) (whole : Placed) → Merging ring left place (e ∷ rest) whole → 0 < left → is_first_at ring place ≡ true
@@ -147,6 +128,3 @@ merging_added ring new left place e rest whole m none is =
       total = ap (λ (l : Placed). held_with l (place + 1) rest) (same ∙ sym (comes_between place e (drop left ring) (take left ring) m.below above)) ∙ m.total;
     }
     )
-
-pub merged : (ring new : Placed) (left place : ℕ) (whole : Placed) → Merging ring left place [] whole → new ≡ drop left ring ++ take left ring → (new ≡ whole) × Rises new
-merged ring new left place whole m is = (is ∙ m.total, subst (λ (l : Placed). Rises l) (sym is) m.rises)

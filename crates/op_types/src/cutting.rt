@@ -93,7 +93,8 @@ impl Entry {
     }
 }
 
-/// Whether entries take no more bytes than a part of a long message. Entries behind the first ones that don't fit aren't looked at.
+/// Whether entries take no more bytes than a part of a long message. Entries behind the first ones that don't
+/// fit aren't looked at.
 pub fn fits_part(entries: &[Entry]) -> bool
     ensures { result ≡ nat_le (entries_size entries.now) most_part_bytes }
 {

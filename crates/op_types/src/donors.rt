@@ -11,8 +11,8 @@ use std::marker::Model;
 /// How many donors a joining node keeps at most.
 pub const MOST_DONORS: usize = 255;
 
-/// Nodes that have a closed list, each with how much of it is trimmed there, rising by id. There is memory for all that a
-/// node keeps from the start, so that one more takes none.
+/// Nodes that have a closed list, each with how much of it is trimmed there, rising by id. There is memory
+/// for all that a node keeps from the start, so that one more takes none.
 #[derive(Drop)]
 pub struct Donors {
     items: Box<ArrayVec<(Pid, u64), MOST_DONORS>>,

@@ -14,8 +14,8 @@ use std::mem;
 type Ring = VecDeque<(u64, Entry)>;
 
 impl Held {
-    /// Entries from a position on come to those that are held, in the room that was made for them. A position that is held
-    /// already keeps its entry. It costs what is held and what comes; nothing is copied.
+    /// Entries from a position on come to those that are held, in the room that was made for them. A position
+    /// that is held already keeps its entry. It costs what is held and what comes; nothing is copied.
     pub fn fill(&mut self, start: u64, entries: Entries)
         requires room { length entries ≤ self.old.room }
         requires places { start + length entries < 2 ^ 64 }
@@ -62,7 +62,8 @@ fn filled(mut ring: Ring, start: u64, entries: Entries) -> Ring
     ring
 }
 
-/// An entry comes to a position, unless the first one that is left holds it. That one is passed. Tells how much is left.
+/// An entry comes to a position, unless the first one that is left holds it. That one is passed. Tells how
+/// much is left.
 fn put(ring: &mut Ring, left: usize, place: u64, entry: Entry) -> usize
     requires within { left ≤ deque_len ring.old }
     requires room { deque_len ring.old < deque_capacity ring.old }

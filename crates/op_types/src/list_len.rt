@@ -4,8 +4,8 @@ use crate::Donors;
 use std::alloc::{AllocError as NoMemory, Global};
 use std::marker::Model;
 
-/// The length of a closed list that a node begins to join, with the memory for the list's donors: so joining begins without
-/// taking any. Contracts see the length alone.
+/// The length of a closed list that a node begins to join, with the memory for the list's donors: so joining
+/// begins without taking any. Contracts see the length alone.
 #[derive(Drop)]
 pub struct ListLen {
     len: u64,

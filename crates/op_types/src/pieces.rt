@@ -49,14 +49,16 @@ impl Pieces {
         }
     }
 
-    /// Whether all bytes came. Pieces mostly come in order: while the last byte is missing, this looks at no other.
+    /// Whether all bytes came. Pieces mostly come in order: while the last byte is missing, this looks at no
+    /// other.
     pub fn are_whole(&self) -> bool
         ensures { result ≡ is_some (whole_bytes self.now.bytes) }
     {
         are_there(self.bytes.as_slice())
     }
 
-    /// Whether all bytes are there once these come to the places from this one on. It changes nothing, and takes no memory.
+    /// Whether all bytes are there once these come to the places from this one on. It changes nothing, and
+    /// takes no memory.
     pub fn are_whole_with(&self, from: usize, bytes: &[u8]) -> bool
         requires { from + length bytes.now ≤ length self.now.bytes }
         ensures { result ≡ is_some (whole_bytes (bytes_with_at self.now.bytes from bytes.now)) }
@@ -83,7 +85,8 @@ impl Pieces {
         Ok(Some(Blob::from_vec(bytes)?))
     }
 
-    /// The bytes once these come to the places from this one on, if all are there then. They are copied only then.
+    /// The bytes once these come to the places from this one on, if all are there then. They are copied only
+    /// then.
     pub fn whole_with(
         &self,
         alloc: Global,

@@ -1,6 +1,7 @@
 use crate::{Ballot, Blob, Entries};
 
-/// A part of a promise whose entries are too long for one message: what the promise tells but its entries, and a run of them.
+/// A part of a promise whose entries are too long for one message: what the promise tells but its entries,
+/// and a run of them.
 #[derive(Drop)]
 pub struct PromisedRun {
     /// The round in which the sender accepted its log.
@@ -17,7 +18,8 @@ pub struct PromisedRun {
     pub run: Entries,
 }
 
-/// A part of an accept sync whose entries are too long for one message: from where to where its entries go, and a run of them.
+/// A part of an accept sync whose entries are too long for one message: from where to where its entries go,
+/// and a run of them.
 #[derive(Drop)]
 pub struct SyncRun {
     /// Where the accept sync's entries begin.

@@ -40,7 +40,8 @@ impl ShortBytes {
         &self.bytes[..self.len as usize]
     }
 
-    /// The order of the bytes by their first difference. Two numbers decide it, since zeros stand behind the bytes.
+    /// The order of the bytes by their first difference. Two numbers decide it, since zeros stand behind the
+    /// bytes.
     pub fn order(&self, other: &ShortBytes) -> Ordering
         ensures { result ≡ slice_cmp nat_cmp (short_bytes self.now) (short_bytes other.now) }
     {

@@ -9,8 +9,8 @@ use crate::turn::remove_promise;
 use crate::{Held, Pid, Preparing, Promised, PromisedRun, Reserved, Stage};
 
 impl Preparing {
-    /// A part of a sender's promise is kept, in the room that was made, and the promise once all of it is there. It takes no
-    /// memory, and copies nothing.
+    /// A part of a sender's promise is kept, in the room that was made, and the promise once all of it is
+    /// there. It takes no memory, and copies nothing.
     pub(crate) fn keep_part(&mut self, from: Pid, part: PromisedRun, fresh: Held)
         requires { PartHasRoom self.old from part fresh }
         ensures { preparing_of self.new ≡ with_part (preparing_of self.old) from part }

@@ -182,7 +182,8 @@ impl Part {
         self.trimmed = at;
     }
 
-    /// A change of the part takes place, in the room that was made for it. One that leaves or makes a part does nothing here.
+    /// A change of the part takes place, in the room that was made for it. One that leaves or makes a part
+    /// does nothing here.
     fn take(&mut self, change: Change)
         requires { (needed_by change).entries ≤ self.old.tail.room }
         ensures { self.new ≡ part_taking self.old change }

@@ -10,7 +10,8 @@ use crate::{
     Promised, PromisedRun, Report, Reserved, Role,
 };
 
-/// What a step changes of what a node keeps in memory of its part: of its role, its heartbeat round or its election.
+/// What a step changes of what a node keeps in memory of its part: of its role, its heartbeat round or its
+/// election.
 #[derive(Drop)]
 pub enum Turn {
     /// Nothing changes.
@@ -19,8 +20,8 @@ pub enum Turn {
     Become(Role),
     /// A node that prepares keeps a promise.
     Keep(Promised),
-    /// A node that prepares keeps a part of a sender's promise, and the promise once all of it is there. The entries go to the
-    /// sender's stage, or into this one, which has room for them and is empty.
+    /// A node that prepares keeps a part of a sender's promise, and the promise once all of it is there. The
+    /// entries go to the sender's stage, or into this one, which has room for them and is empty.
     KeepPart(Pid, PromisedRun, Held),
     /// A node that prepares lets go of what came of a sender's promise.
     DropParts(Pid),
@@ -36,10 +37,11 @@ pub enum Turn {
     KeepReport(Report),
     /// A leader keeps no report.
     ClearReports,
-    /// The node goes on in another configuration, or without one: all that it keeps in memory of its part begins anew.
+    /// The node goes on in another configuration, or without one: all that it keeps in memory of its part
+    /// begins anew.
     Renew,
-    /// A follower stages entries of its leader's log, from a position on; of all that is staged, what stands below the second
-    /// position leaves.
+    /// A follower stages entries of its leader's log, from a position on; of all that is staged, what stands
+    /// below the second position leaves.
     Stage(u64, Entries, u64),
     /// A node that joins stages a piece of a base: among those before it, or as the first of these.
     StagePiece(Piece, Option<Pieces>),

@@ -14,8 +14,8 @@ pub enum Write {
     Del(Blob),
 }
 
-/// The writes of a command, at most 16, from the left. They lie apart, so that other commands take less room, and
-/// copies share them.
+/// The writes of a command, at most 16, from the left. They lie apart, so that other commands take less room,
+/// and copies share them.
 #[derive(Drop)]
 pub struct Writes {
     items: Shared<Seq<Write>>,

@@ -1,5 +1,5 @@
 -- Lists that only grow: what stands before a configuration that was opened stays.
-use Rattle.std.proofs.Common.{◌≡◌, ◌<◌, ◌≤◌, ◌⊎◌, ⊎_elim, ℕ, zero, suc, ◌+◌, ◌-◌, Bool, true, false, cond, eqb, is_some, List, [], ◌∷◌, ◌++◌, length, take, Option, Some, None, refl, sym, ap, ◌∙◌, subst, arith, append-nil, length-append}
+use Rattle.std.proofs.Common.{◌≡◌, ◌<◌, ◌≤◌, ⊎_elim, ℕ, zero, suc, ◌+◌, ◌-◌, Bool, true, false, cond, eqb, is_some, List, [], ◌∷◌, ◌++◌, length, take, Option, refl, sym, ap, ◌∙◌, subst, arith, append-nil, length-append}
 use Rattle.std.proofs.lemmas.Bool.{cases_lt, cases_eq}
 use Rattle.std.proofs.lemmas.List.{take-append-le}
 use Rattle.op_types.specs.Stops.{stop_at_end, named_by}
@@ -8,9 +8,6 @@ use Rattle.op_types.specs.declared.log.StopSign.{StopSign}
 use Rattle.op_spec.specs.Machine.{members_of}
 use Rattle.op_spec.specs.Laws.{NoneAfterStop}
 use Rattle.op_spec.specs.Stands.{lists_through, prefix_of}
-
-none_some : {A : Type 0} (a : A) → None ≡ Some a → ⊥
-none_some a e = cc
 
 -- behind a stop-sign stands nothing
 pub ended_whole : (l more : List Entry) → is_some (stop_at_end l) ≡ true → NoneAfterStop (l ++ more) → more ≡ []

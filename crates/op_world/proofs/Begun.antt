@@ -7,7 +7,7 @@ use Rattle.op_types.specs.Ranges.{IsMember}
 use Rattle.op_types.specs.declared.log.Entry.{Entry}
 use Rattle.op_runs.specs.Possible.{ObserversInRange}
 use Rattle.op_runs.specs.Run.{Execution, first_execution, execution_with, execution_of, machine_proposing_by}
-use Rattle.op_runs.specs.Schedules.{beginning, begun}
+use Rattle.op_runs.specs.Schedules.{beginning, observers_begun}
 use Rattle.op_runs.specs.World.{World, Node, Happening, Opens, deed_of, done_event, first_node, first_world, node_at, node_ids, world_after, world_at_node}
 use Rattle.op_laws.specs.Runs.{RunInRange}
 use Rattle.op_refinement.proofs.EveryRun.{every_run_meets}
@@ -28,7 +28,7 @@ module _ (members spares : List ℕ) (none : (conf : ℕ) → HaveNoMore conf []
 
   -- no beginning of an observer changes a list
   lists_stay : (observers : List ℕ) (t : Execution) → ((q : ℕ) → IsMember observers q → node_at first.nodes q ≡ None) → t.world.nodes ≡ first.nodes → ((conf : ℕ) → t.machine.lists conf ≡ [])
-      → (conf : ℕ) → (execution_of t (begun observers)).machine.lists conf ≡ []
+      → (conf : ℕ) → (execution_of t (observers_begun observers)).machine.lists conf ≡ []
   lists_stay [] t away nodes empty conf = empty conf
   lists_stay (q ∷ observers) t away nodes empty conf =
       let h : Happening = done_event (beginning q) in
@@ -44,8 +44,8 @@ module _ (members spares : List ℕ) (none : (conf : ℕ) → HaveNoMore conf []
       lists_stay observers (execution_with t h) (λ p m. away p (or_right _ (is_member nat_eq observers p) m)) stays still conf
 
 -- so nothing is listed once all have begun
-pub lists_begun : (members spares observers : List ℕ) → RunInRange members spares (begun observers) → ObserversInRange members spares observers → (conf : ℕ) → (reached members spares (begun observers)).machine.lists conf ≡ []
+pub lists_begun : (members spares observers : List ℕ) → RunInRange members spares (observers_begun observers) → ObserversInRange members spares observers → (conf : ℕ) → (reached members spares (observers_begun observers)).machine.lists conf ≡ []
 lists_begun members spares observers range o conf =
-    let meets = every_run_meets members spares range.first range.others (begun observers) range.happenings in
+    let meets = every_run_meets members spares range.first range.others (observers_begun observers) range.happenings in
     lists_stay members spares (λ c. sound_no_more members (first_execution members spares) meets.0 c) observers (first_execution members spares)
     (λ q m. none_first members q (node_ids members spares) (beside members spares observers range.first range.others o q m)) refl (λ c. refl) conf

@@ -10,7 +10,7 @@ use Rattle.op_runs.specs.declared.events.Event.{Event}
 use Rattle.op_runs.specs.World.{Kind, Votes, Observes, World, Node, Happening, Up, Down, Failed, Doing, Steps, Stops, Opens, Tells, first_world, run_of, deed_of, node_at, plan_as, world_after}
 use Rattle.op_runs.specs.Run.{Execution, first_execution, execution_with, machine_proposing_by}
 use Rattle.op_runs.specs.Possible.{Named, kind_if, is_possible, most_proposals, proposals_of, WhatInRange}
-use Rattle.op_runs.specs.Schedules.{Nothing, Seated, begun, seated, seated_at, DiskPlan, DiskPlans, MayEnd, plan_for, plans_by, plans_with, awaiting, is_lost, is_awaited, drops, CallsDisks}
+use Rattle.op_runs.specs.Schedules.{Nothing, Seated, observers_begun, seated, seated_at, DiskPlan, DiskPlans, MayEnd, plan_for, plans_by, plans_with, awaiting, is_lost, is_awaited, drops, CallsDisks}
 use Rattle.op_spec.specs.Ledger.{decided_entries}
 use Rattle.op_spec.specs.Machine.{Machine}
 use Rattle.op_protocol.specs.State.{State}
@@ -328,10 +328,10 @@ module _ {D C : Type 0} (M : Medium D C) where
 
   -- ---- the start
 
-  pub first_shows : (w : ServerWorld (WorldNode D C)) (lists : List (List Entry)) (spares observers : List ℕ) → HasRun (area_nodes M) w spares observers (begun observers) → lists ≡ [] → Shows M (parts_of w lists) (reached w.members spares (begun observers))
+  pub first_shows : (w : ServerWorld (WorldNode D C)) (lists : List (List Entry)) (spares observers : List ℕ) → HasRun (area_nodes M) w spares observers (observers_begun observers) → lists ≡ [] → Shows M (parts_of w lists) (reached w.members spares (observers_begun observers))
   first_shows w lists spares observers run none =
-      let t : Execution = reached w.members spares (begun observers) in
-      let show : worlds.Shows (area_nodes M) w t.world = subst (λ (x : World). worlds.Shows (area_nodes M) w x) (sym (world_of_run (first_execution w.members spares) (begun observers))) run.shows in
+      let t : Execution = reached w.members spares (observers_begun observers) in
+      let show : worlds.Shows (area_nodes M) w t.world = subst (λ (x : World). worlds.Shows (area_nodes M) w x) (sym (world_of_run (first_execution w.members spares) (observers_begun observers))) run.shows in
       record {
         servers = show.servers;
         messages = show.messages;
@@ -339,11 +339,11 @@ module _ {D C : Type 0} (M : Medium D C) where
         lists = λ conf. lists_begun w.members spares observers run.range run.observers_are conf ∙ ap (λ (ls : List (List Entry)). list_at ls conf) (sym none);
       }
 
-  pub first_kept : (w : ServerWorld (WorldNode D C)) (lists : List (List Entry)) (spares observers : List ℕ) → HasRun (area_nodes M) w spares observers (begun observers) → lists ≡ [] → IsWorld M (parts_of w lists)
+  pub first_kept : (w : ServerWorld (WorldNode D C)) (lists : List (List Entry)) (spares observers : List ℕ) → HasRun (area_nodes M) w spares observers (observers_begun observers) → lists ≡ [] → IsWorld M (parts_of w lists)
   first_kept w lists spares observers run none = record {
     spares = spares;
     observers = observers;
-    happenings = begun observers;
+    happenings = observers_begun observers;
     range = run.range;
     observers_are = run.observers_are;
     ids = run.ids;

@@ -133,13 +133,6 @@ planned_again nodes plans pid all q = by (eqb q pid) (eqb pid pid) (all q)
     by true false k = k
     by false c k = k
 
-pub planned_twice : {D C : Type 0} (nodes : List (WorldNode D C)) (plans : DiskPlans) (pid : ℕ) (x y : DiskPlan) → ArePlanned nodes (plans_with (plans_with plans pid x) pid y) → ArePlanned nodes (plans_with plans pid y)
-planned_twice nodes plans pid x y all q = by (eqb q pid) (all q)
-  where
-    by : (b : Bool) → IsPlan (plan_at nodes q) (cond b y (cond b x (plans q))) → IsPlan (plan_at nodes q) (cond b y (plans q))
-    by true k = k
-    by false k = k
-
 -- what awaits a node is dropped
 pub plan_dropped : (p q : Plan) (plan : DiskPlan) → IsPlan p plan → awaited_of q.awaited ≡ Nothing → q.killed ≡ p.killed → IsPlan q (awaiting plan Nothing)
 plan_dropped p q plan is none same = record {

@@ -11,7 +11,7 @@ use Rattle.op_runs.specs.World.{World, Sent, Deed, Doing, Happening, Fate, Done,
 use Rattle.op_runs.specs.Run.{Execution, first_execution, execution_of}
 use Rattle.op_runs.specs.Possible.{Named, ObserversInRange, is_possible, is_possible_in, most_proposals, named_ids, WhatInRange, SparesInRange, proposals_in, proposals_of}
 use Rattle.op_areas.specs.Media.{Medium}
-use Rattle.op_runs.specs.Schedules.{DiskPlan, DiskPlans, Seated, no_plans, plans_after, happening_of, happenings_of, seated_at, begun, stop_after, BecomesAt, BecomesBy, Becomes, IsRunOf, IsFirstRefused, TellsNoFault}
+use Rattle.op_runs.specs.Schedules.{DiskPlan, DiskPlans, Seated, no_plans, plans_after, happening_of, happenings_of, seated_at, observers_begun, stop_after, BecomesAt, BecomesBy, Becomes, IsRunOf, IsFirstRefused, TellsNoFault}
 use Rattle.op_runs.specs.Summary.{summary_of}
 use Rattle.op_laws.proofs.Reached.{world_of_run, execution_append}
 use Rattle.op_executions.specs.Laws.{reached}
@@ -80,7 +80,7 @@ module _ (P : What → Type 0) (e : Event) (here : P e.what) (stops : (p : ℕ) 
 -- these events became these happenings, which came to this run, with these plans; so much was proposed
 pub record Ran (members spares observers : List ℕ) (mirrored : Bool) (t : Execution) (plans : DiskPlans) (events : List Event) (hs : List Happening) (proposed : ℕ) : Type 0 where
   pub comes : ComesTo members spares observers mirrored t.world plans events hs
-  pub is : t ≡ reached members spares (begun observers ++ hs)
+  pub is : t ≡ reached members spares (observers_begun observers ++ hs)
   pub events_fit : All (λ e. WhatInRange e.what) events
   pub events_name : All (λ e. NamesServers members spares observers e.what) events
   pub fit : All (λ h. WhatInRange h.event.what) hs
@@ -89,10 +89,10 @@ pub record Ran (members spares observers : List ℕ) (mirrored : Bool) (t : Exec
   pub counted : proposals_in hs ≡ proposed
   pub few : proposed < most_proposals
 
-pub ran_first : (members spares observers : List ℕ) (mirrored : Bool) (proposed : ℕ) → proposed ≡ 0 → Ran members spares observers mirrored (reached members spares (begun observers)) no_plans [] [] proposed
+pub ran_first : (members spares observers : List ℕ) (mirrored : Bool) (proposed : ℕ) → proposed ≡ 0 → Ran members spares observers mirrored (reached members spares (observers_begun observers)) no_plans [] [] proposed
 ran_first members spares observers mirrored proposed none = record {
-  comes = subst (λ (w : World). ComesTo members spares observers mirrored w no_plans [] []) (sym (world_of_run (first_execution members spares) (begun observers))) (comes_first members spares observers mirrored);
-  is = ap (λ (hs : List Happening). reached members spares hs) (sym (append-nil (begun observers)));
+  comes = subst (λ (w : World). ComesTo members spares observers mirrored w no_plans [] []) (sym (world_of_run (first_execution members spares) (observers_begun observers))) (comes_first members spares observers mirrored);
+  is = ap (λ (hs : List Happening). reached members spares hs) (sym (append-nil (observers_begun observers)));
   events_fit = All-nil (λ (e : Event). WhatInRange e.what);
   events_name = All-nil (λ (e : Event). NamesServers members spares observers e.what);
   fit = All-nil (λ (h : Happening). WhatInRange h.event.what);
@@ -113,8 +113,8 @@ ran_next M members spares observers old new t plans events hs e proposed more r 
     record {
       comes = subst (λ (w : World). ComesTo members spares observers M.is_mirrored w (plans_after t.world plans e.what) (events ++ e ∷ []) (hs ++ now)) (sym (world_of_run t now))
           (comes_next members spares observers M.is_mirrored t.world plans events hs r.comes e now can c.becomes);
-      is = ap (λ (u : Execution). execution_of u now) r.is ∙ sym (execution_append (first_execution members spares) (begun observers ++ hs) now)
-          ∙ ap (λ (gs : List Happening). reached members spares gs) (append_assoc (begun observers) hs now);
+      is = ap (λ (u : Execution). execution_of u now) r.is ∙ sym (execution_append (first_execution members spares) (observers_begun observers ++ hs) now)
+          ∙ ap (λ (gs : List Happening). reached members spares gs) (append_assoc (observers_begun observers) hs now);
       events_fit = All-push (λ (x : Event). WhatInRange x.what) events e r.events_fit fit;
       events_name = All-push (λ (x : Event). NamesServers members spares observers x.what) events e r.events_name names;
       fit = All-append (λ (h : Happening). WhatInRange h.event.what) hs now r.fit c.range;
@@ -159,34 +159,34 @@ all_in_range events k = all_of WhatInRange events k
 
 module _ (members spares observers : List ℕ) (m : MembersInRange members) (sp : SparesInRange members spares) (o : ObserversInRange members spares observers) where
   -- what these happenings leave, where they are a run of the events
-  abbrev report : (mirrored : Bool) (events : List Event) (s : Summary) (hs : List Happening) → IsRunOf members spares observers mirrored events (begun observers ++ hs) → Fit members spares observers hs → s ≡ summary_of members (reached members spares (begun observers ++ hs))
-      → (ArePlain events → begun observers ++ hs ≡ begun observers ++ all_done events) → IsReportOfRun members spares observers mirrored events s
+  abbrev report : (mirrored : Bool) (events : List Event) (s : Summary) (hs : List Happening) → IsRunOf members spares observers mirrored events (observers_begun observers ++ hs) → Fit members spares observers hs → s ≡ summary_of members (reached members spares (observers_begun observers ++ hs))
+      → (ArePlain events → observers_begun observers ++ hs ≡ observers_begun observers ++ all_done events) → IsReportOfRun members spares observers mirrored events s
   report mirrored events s hs run k left plain = record {
-    happenings = begun observers ++ hs;
+    happenings = observers_begun observers ++ hs;
     run = run;
     left = left;
-    laws = keeps_the_laws members spares (begun observers ++ hs) (behind_in_range members spares observers m sp o hs k);
+    laws = keeps_the_laws members spares (observers_begun observers ++ hs) (behind_in_range members spares observers m sp o hs k);
     owns = behind_owns members spares observers m sp o hs k;
     plain = plain;
   }
 
   -- where each event is done
-  abbrev pub done_report : (mirrored : Bool) (events : List Event) (s : Summary) → IsRunOf members spares observers mirrored events (begun observers ++ all_done events) → All (λ e. WhatInRange e.what) events
-      → All (λ e. NamesServers members spares observers e.what) events → proposals_in (all_done events) < most_proposals → s ≡ summary_of members (reached members spares (begun observers ++ all_done events))
+  abbrev pub done_report : (mirrored : Bool) (events : List Event) (s : Summary) → IsRunOf members spares observers mirrored events (observers_begun observers ++ all_done events) → All (λ e. WhatInRange e.what) events
+      → All (λ e. NamesServers members spares observers e.what) events → proposals_in (all_done events) < most_proposals → s ≡ summary_of members (reached members spares (observers_begun observers ++ all_done events))
       → IsReportOfRun members spares observers mirrored events s
   done_report mirrored events s run each names few left =
       report mirrored events s (all_done events) run (record { each = all_in_range events each; name = all_of (λ (x : What). NamesServers members spares observers x) events names; few = few }) left (λ _. refl)
 
   module _ (mirrored : Bool) (t : Execution) (plans : DiskPlans) (events : List Event) (hs : List Happening) (proposed : ℕ) (s : Summary) (r : Ran members spares observers mirrored t plans events hs proposed) (left : s ≡ summary_of members t) where
-    abbrev run : IsRunOf members spares observers mirrored events (begun observers ++ hs)
+    abbrev run : IsRunOf members spares observers mirrored events (observers_begun observers ++ hs)
     run = comes_whole members spares observers mirrored t.world plans events hs r.comes
 
     -- where each event is done
     abbrev pub plain_report : ArePlain events → IsReportOfRun members spares observers mirrored events s
     plain_report plain =
-        done_report mirrored events s (plain_events_can_be_done members spares observers mirrored events (begun observers ++ hs) plain run) r.events_fit r.events_name
+        done_report mirrored events s (plain_events_can_be_done members spares observers mirrored events (observers_begun observers ++ hs) plain run) r.events_fit r.events_name
         (let is = r.events_counted in let small = r.few in omega (arith, is, small))
-        (left ∙ ap (λ (x : Execution). summary_of members x) (r.is ∙ plain_runs_are_done members spares observers mirrored events (begun observers ++ hs) plain run))
+        (left ∙ ap (λ (x : Execution). summary_of members x) (r.is ∙ plain_runs_are_done members spares observers mirrored events (observers_begun observers ++ hs) plain run))
 
     abbrev pub other_report : (ArePlain events → ⊥) → IsReportOfRun members spares observers mirrored events s
     other_report other =
@@ -213,7 +213,7 @@ pub record Continues (members spares observers : List ℕ) (mirrored : Bool) (t 
   pub size : index + length left ≡ length events
 
 pub continues_first : (members spares observers : List ℕ) (mirrored : Bool) (left events : List Event) (proposed : ℕ) → left ≡ events → All (λ e. WhatInRange e.what) events → proposed ≡ 0
-    → Continues members spares observers mirrored (reached members spares (begun observers)) no_plans left events 0 proposed
+    → Continues members spares observers mirrored (reached members spares (observers_begun observers)) no_plans left events 0 proposed
 continues_first members spares observers mirrored left events proposed all range none = record {
   done = [];
   happenings = [];

@@ -3,7 +3,7 @@ use Rattle.std.specs.Prelude.{◌≡◌, ℕ, Bool, List, [], ◌++◌, All}
 use Rattle.op_runs.specs.declared.events.Event.{Event}
 use Rattle.op_runs.specs.declared.summary.Summary.{Summary}
 use Rattle.op_runs.specs.World.{Happening, all_done}
-use Rattle.op_runs.specs.Schedules.{begun, IsRunOf, TellsNoFault}
+use Rattle.op_runs.specs.Schedules.{observers_begun, IsRunOf, TellsNoFault}
 use Rattle.op_runs.specs.Summary.{summary_of}
 use Rattle.op_gen.specs.Draws.{drill_members, drill_spares, drill_mirrored, AreDrawn}
 use Rattle.op_executions.specs.Laws.{KeepsTheLaws, NoneOwnsBallots, reached}
@@ -24,7 +24,8 @@ pub record IsReportOfRun (members spares observers : List ℕ) (mirrored : Bool)
   -- and none of these owns a ballot
   pub owns : NoneOwnsBallots (reached members spares happenings).world
   -- where no stop and no failure in a call is told, and no disk is killed, each event is done
-  pub plain : All (λ e. TellsNoFault e.what) events → happenings ≡ begun observers ++ all_done events
+  pub plain : All (λ e. TellsNoFault e.what) events
+      → happenings ≡ observers_begun observers ++ all_done events
 
 -- this is reported of a drill of so many events that this seed draws
 pub record IsReportOfDrawn (seed count : ℕ) (s : Summary) : Type 0 where

@@ -8,8 +8,9 @@ use std::marker::Model;
 /// Room for so many events is kept until all happened.
 const MOST_KEPT_EVENTS: usize = 1 << 15;
 
-/// Events that are still to come. Their memory is given back as they happen, where there are many: once fewer than half are left,
-/// what is left moves to a block of its own size, so that an event is moved once on average.
+/// Events that are still to come. Their memory is given back as they happen, where there are many: once fewer
+/// than half are left, what is left moves to a block of its own size, so that an event is moved once on
+/// average.
 #[derive(Drop)]
 pub(crate) struct Coming {
     events: VecDeque<Event>,

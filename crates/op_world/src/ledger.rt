@@ -52,8 +52,8 @@ impl Ledger {
         self.show_node(&server.state)
     }
 
-    /// A node shows what it has stored, if it is up: each list that it has decided more of gets these entries. One that isn't up
-    /// showed it before.
+    /// A node shows what it has stored, if it is up: each list that it has decided more of gets these
+    /// entries. One that isn't up showed it before.
     fn show_node<D: Disk, C>(&mut self, node: &NodeState<D, C>) -> Result<(), NoMemory>
         ensures { OnOk result (NodeShowsMore self.old node.now self.new) }
     {
@@ -63,8 +63,8 @@ impl Ledger {
         }
     }
 
-    /// The lists from configuration 1 on, so many at most, whose first one has these members, as far as a stop-sign ends the one
-    /// before.
+    /// The lists from configuration 1 on, so many at most, whose first one has these members, as far as a
+    /// stop-sign ends the one before.
     pub fn into_listed(self, members: Members, count: ConfNo) -> Result<Lists, NoMemory>
         ensures { IfOk result (λ listed. listed ≡ listed_from (list_at self) count 1 (Some members)) }
     {

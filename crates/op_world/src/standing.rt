@@ -46,7 +46,8 @@ impl Standing {
         Ok(standing)
     }
 
-    /// Adds a server: one that isn't up is told with what it had stored before the step in which it stopped or failed.
+    /// Adds a server: one that isn't up is told with what it had stored before the step in which it stopped
+    /// or failed.
     fn add_node<A: Area>(&mut self, node: &WorldNode<A, A::Copies>) -> Result<(), NoMemory>
         requires { (x : Seated) × ShowsSeated (medium A.state A.holds A.IS_MIRRORED) node.now x
             × IfSome x.node.state.durable.closed ClosedInRange }

@@ -1,5 +1,5 @@
-//! What a node leads, and what is left of that once a plan is adopted: what those need to know who wait for the ballot that it
-//! leads.
+//! What a node leads, and what is left of that once a plan is adopted: what those need to know who wait for
+//! the ballot that it leads.
 ghost use Rattle.std.specs.Prelude.{◌≡◌, IsSome, option_copied};
 ghost use Rattle.op_types.specs.Changes.{durable_after};
 ghost use Rattle.op_types.specs.declared.events.Input as input;
@@ -61,8 +61,8 @@ impl Chain {
         }
     }
 
-    /// Why a node with a part that leads no more then does so no more: a greater ballot is promised, or the configuration
-    /// ended at its stop-sign.
+    /// Why a node with a part that leads no more then does so no more: a greater ballot is promised, or the
+    /// configuration ended at its stop-sign.
     pub fn why_given_up(&self, plan: &ReadyPlan) -> Cause
         requires plans { (x : input.Input) × Plans self.now x plan.now }
         requires part { IsSome self.now.durable.part }

@@ -8,8 +8,8 @@ use op_types::{Durable, NoMemory};
 use std::mem::swap;
 
 impl Chain {
-    /// Opens the node again in place, which has stored this: all that it keeps in memory begins anew, but for the clients
-    /// that wait, which wait still. Without memory it stays as it is.
+    /// Opens the node again in place, which has stored this: all that it keeps in memory begins anew, but for
+    /// the clients that wait, which wait still. Without memory it stays as it is.
     pub fn reopen(&mut self, durable: Durable) -> Result<(), NoMemory>
         requires { CanOpen self.old.me durable }
         ensures me { self.new.me ≡ self.old.me }

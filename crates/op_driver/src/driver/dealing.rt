@@ -118,7 +118,8 @@ impl<K: Core> Driver<K> {
         Some(frames)
     }
 
-    /// What was gathered is given, and then the earlier session of a peer ends, if this connection still has one.
+    /// What was gathered is given, and then the earlier session of a peer ends, if this connection still has
+    /// one.
     fn make_way(&mut self, conn: Conn, peer: Pid)
         requires at { self.old.loop.place.at ≢ 0 }
         requires none { IsDrained self.old.loop }
@@ -395,7 +396,8 @@ impl<K: Core> Driver<K> {
         self.sessions.bring(conn, from, message)
     }
 
-    /// A command is gathered. Gives whether there are as many as one input may have. Without memory nothing changes.
+    /// A command is gathered. Gives whether there are as many as one input may have. Without memory nothing
+    /// changes.
     fn gather(&mut self, conn: Conn, command: Command) -> Result<bool, NoMemory>
         requires { CommandInRange command }
         ensures ok { OnOk result

@@ -23,9 +23,10 @@ use op_types::{Durable, NoMemory, Sends};
 use std::alloc::Global;
 
 impl<D: Disk> Node<D> {
-    /// Opens a node that failed again, in place, as it is opened after a restart, but that its clients wait still. Gives what
-    /// it sends. It finds what it had stored before the step in which a disk failed, or what that step was to store. Where
-    /// this is refused the node has failed still, and shows what it showed; where a disk failed it keeps the new count.
+    /// Opens a node that failed again, in place, as it is opened after a restart, but that its clients wait
+    /// still. Gives what it sends. It finds what it had stored before the step in which a disk failed, or
+    /// what that step was to store. Where this is refused the node has failed still, and shows what it
+    /// showed; where a disk failed it keeps the new count.
     pub fn reopen(&mut self) -> Result<Sends, StoreFail>
         requires sound { IsSoundNode self.old }
         requires failed { (node_of self.old).failed ≢ None }
@@ -71,9 +72,9 @@ fn reopened(alloc: Global, seat: &mut Seat, durable: Durable) -> Result<Sends, N
     ensures who { (kind_of seat.new ≡ kind_of seat.old) × (me_of seat.new ≡ me_of seat.old) }
     ensures state { OnOk result (state_of seat.new
         ≡ state_after_reopening (me_of seat.old) (state_of seat.old)
-        (openings.taken_as (kind_of seat.old) (me_of seat.old) durable)) }
+        (openings.kept_from (kind_of seat.old) (me_of seat.old) durable)) }
     ensures sends { IfOk result (λ s. s ≡ sends_as (kind_of seat.old) (me_of seat.old)
-        (openings.taken_as (kind_of seat.old) (me_of seat.old) durable)) }
+        (openings.kept_from (kind_of seat.old) (me_of seat.old) durable)) }
     ensures sound { OnOk result (IsSoundSeat seat.new) }
     ensures unchanged { OnErr result (seat.new ≡ seat.old) }
 {

@@ -18,8 +18,9 @@ use op_types::{Durable, NoMemory, Sends};
 use std::alloc::Global;
 
 impl<D: Disk> Node<D> {
-    /// Opens a node that failed again, in place, as after a restart: nothing of what it kept in memory counts. Gives what it
-    /// sends. Where this is refused the node has failed still; where a disk failed it keeps the new count.
+    /// Opens a node that failed again, in place, as after a restart: nothing of what it kept in memory
+    /// counts. Gives what it sends. Where this is refused the node has failed still; where a disk failed it
+    /// keeps the new count.
     pub fn restart(&mut self) -> Result<Sends, StoreFail>
         requires sound { IsSoundNode self.old }
         requires failed { (node_of self.old).failed ≢ None }

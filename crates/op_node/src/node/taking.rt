@@ -22,8 +22,9 @@ impl<D: Disk> Node<D> {
         Record::new(self.alloc)
     }
 
-    /// Takes a step in memory: it is planned with all its memory, what it stores is added to the record, and it takes effect.
-    /// What it gives out may be given out once the record is stored. Without memory nothing changes.
+    /// Takes a step in memory: it is planned with all its memory, what it stores is added to the record, and
+    /// it takes effect. What it gives out may be given out once the record is stored. Without memory nothing
+    /// changes.
     pub fn take(&mut self, input: Input, gathered: &mut Record) -> Result<Given, NoMemory>
         requires admits { AdmitsInput self.old input }
         requires runs { (node_of self.old).failed ≡ None }
@@ -40,9 +41,9 @@ impl<D: Disk> Node<D> {
         Ok(self.seat.adopt(plan))
     }
 
-    /// Stores what was taken, at once. Where the area becomes too long a checkpoint follows; without memory for one it answers
-    /// `Bound::Passed`, and what is stored next tries again. Nothing else takes memory. Where a disk fails nothing of what was
-    /// taken may be given out, and the node has failed.
+    /// Stores what was taken, at once. Where the area becomes too long a checkpoint follows; without memory
+    /// for one it answers `Bound::Passed`, and what is stored next tries again. Nothing else takes memory.
+    /// Where a disk fails nothing of what was taken may be given out, and the node has failed.
     pub fn store(&mut self, gathered: Record) -> Result<Bound, DiskFault>
         requires sound { IsSoundNode self.old }
         requires runs { (node_of self.old).failed ≡ None }

@@ -39,7 +39,8 @@ impl PureNode {
         }
     }
 
-    /// Is opened, if it isn't up; one that votes asks to be prepared. The clients that wait at one that has failed wait still.
+    /// Is opened, if it isn't up; one that votes asks to be prepared. The clients that wait at one that has
+    /// failed wait still.
     fn open_whole(&mut self, alloc: Global, finds_after: bool) -> Result<Done, NoMemory>
         requires { CanDo pure_nodes self.old runs.Opens }
         ensures { IfOk result (λ r. (line : ℕ) → HasDone self.old runs.Opens

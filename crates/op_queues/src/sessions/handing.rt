@@ -29,8 +29,8 @@ use std::collections::BTreeMap;
 use std::mem;
 
 impl Sessions {
-    /// A message for a peer without a session is lost, and one that is too long for its peer. Before one waits at a
-    /// session, what waits behind there moves up.
+    /// A message for a peer without a session is lost, and one that is too long for its peer. Before one
+    /// waits at a session, what waits behind there moves up.
     pub fn send(&mut self, message: (Pid, Msg))
         requires { SendInRange message }
         ensures { Does (λ marks s. settled marks (sent message s)) self.old self.new }
@@ -59,7 +59,8 @@ impl Sessions {
         }
     }
 
-    /// Whether its peer takes a message. Only one that is longer than a part of a long message is encoded to see that.
+    /// Whether its peer takes a message. Only one that is longer than a part of a long message is encoded to
+    /// see that.
     fn fits(&self, message: &(Pid, Msg)) -> Result<bool, NoMemory>
         requires { SendInRange message.now }
         ensures { IfOk result (λ fits. fits ≡ fits_peer self.now.me message.now.0 message.now.1) }
@@ -70,8 +71,9 @@ impl Sessions {
         fits_peer(self.alloc, self.me, message.0, &message.1)
     }
 
-    /// A message that is too much for what waits behind for a connection is dropped. For each other one what waits
-    /// behind makes way, where it begins anew, or else moves up, as far as there is room; then it waits, too.
+    /// A message that is too much for what waits behind for a connection is dropped. For each other one what
+    /// waits behind makes way, where it begins anew, or else moves up, as far as there is room; then it
+    /// waits, too.
     fn send_fitting(&mut self, conn: Conn, message: (Pid, Msg))
         requires { SendInRange message }
         ensures { Does (λ marks s. settled marks (sent_at (Some conn) message s)) self.old self.new }
@@ -154,7 +156,8 @@ impl Sessions {
         }
     }
 
-    /// A message waits behind for a connection, if that is open. Where that finds no memory, the session is lost.
+    /// A message waits behind for a connection, if that is open. Where that finds no memory, the session is
+    /// lost.
     fn put_behind(&mut self, conn: Conn, unsent: Unsent)
         ensures { Does (λ marks s. settled marks (placed false (conn, unsent) s)) self.old self.new }
     {
@@ -194,8 +197,8 @@ impl Sessions {
         forget(&mut self.askers, key)
     }
 
-    /// A command or a read is asked for: who asked for it before waits no more, and this session does. Where that
-    /// finds no memory, the session is lost.
+    /// A command or a read is asked for: who asked for it before waits no more, and this session does. Where
+    /// that finds no memory, the session is lost.
     fn ask(&mut self, read: bool, conn: Conn, key: Key)
         requires { KeyInRange key }
         ensures { Does (λ marks s. settled marks (asked_by_one read (conn, key) s)) self.old self.new }
@@ -231,8 +234,8 @@ impl Sessions {
         }
     }
 
-    /// What becomes of what was asked for: commands wait for their answers, or each is told why it is refused;
-    /// a read waits where the members are asked, and of all else what becomes of it is told.
+    /// What becomes of what was asked for: commands wait for their answers, or each is told why it is
+    /// refused; a read waits where the members are asked, and of all else what becomes of it is told.
     pub fn propose(&mut self, wanted: Option<Wanted>, outcome: Option<Outcome>)
         requires wanted { IfSome wanted WantedInRange }
         requires outcome { IfSome outcome OutcomeInRange }

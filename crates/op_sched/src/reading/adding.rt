@@ -10,8 +10,8 @@ use op_runs::{Event, What};
 use op_types::NoMemory;
 use std::alloc::Global;
 
-/// Adds the event that the words of a line say, at nodes whose disks are mirrored or not, and returns whether they say
-/// one.
+/// Adds the event that the words of a line say, at nodes whose disks are mirrored or not, and returns whether
+/// they say one.
 pub fn add_event(
     events: &mut Vec<Event>,
     alloc: Global,

@@ -323,8 +323,8 @@ fn read(alloc: Global, words: &[&[u8]]) -> Result<Option<What>, NoMemory>
     }
 }
 
-/// The server and the command that the words after an operation's name say: a server, a client, the number of its
-/// command, and the operation's own words.
+/// The server and the command that the words after an operation's name say: a server, a client, the number of
+/// its command, and the operation's own words.
 pub fn command(
     alloc: Global,
     form: OpForm,

@@ -25,8 +25,8 @@ use op_types::{Members, NoMemory};
 use std::alloc::Global;
 use words::{MOST_WORDS, Words, split_words};
 
-/// The schedule that a text says. `BadLine` names the first line that isn't in the grammar, and `NoMemory` comes
-/// only where the allocator has none.
+/// The schedule that a text says. `BadLine` names the first line that isn't in the grammar, and `NoMemory`
+/// comes only where the allocator has none.
 pub fn read(alloc: Global, text: &[u8]) -> Result<Schedule, SchedFail>
     ensures found { IfOk result (λ s. IsSchedule text.now s) }
     ensures bad { IfBadLine result (IsFirstBadLine text.now) }
@@ -70,7 +70,8 @@ struct Course {
     events: Events,
 }
 
-/// The spares, and what comes after them, behind a header with these members, of a text whose first line has this number.
+/// The spares, and what comes after them, behind a header with these members, of a text whose first line has
+/// this number.
 #[tactic(none)]
 fn after_header(
     alloc: Global,
@@ -108,7 +109,8 @@ fn spares(members: &Members, line: &[u8]) -> Result<Option<Members>, NoMemory>
     forms::spares(&words[..count], members)
 }
 
-/// The observers, and what comes after them, behind these members and spares, of a text whose first line has this number.
+/// The observers, and what comes after them, behind these members and spares, of a text whose first line has
+/// this number.
 #[tactic(none)]
 fn after_spares(
     alloc: Global,
@@ -141,8 +143,8 @@ fn observers(members: &Members, spares: &Members, line: &[u8]) -> Result<Option<
     forms::observers(&words[..count], members, spares)
 }
 
-/// Behind these observers, whether the disks are mirrored, which a first line says, and the events, of a text whose first line
-/// has this number.
+/// Behind these observers, whether the disks are mirrored, which a first line says, and the events, of a text
+/// whose first line has this number.
 fn after_observers(
     alloc: Global,
     observers: Members,
@@ -208,8 +210,8 @@ fn events(alloc: Global, is_mirrored: bool, number: u64, text: &[u8]) -> Result<
     Ok(Events::from_vec(events))
 }
 
-/// Adds the event that a line says, at nodes whose disks are mirrored or not, and returns whether it says one. Its words
-/// take the place of those that stand here.
+/// Adds the event that a line says, at nodes whose disks are mirrored or not, and returns whether it says
+/// one. Its words take the place of those that stand here.
 fn event<'a>(
     events: &mut Vec<Event>,
     alloc: Global,

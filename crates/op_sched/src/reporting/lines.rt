@@ -48,7 +48,8 @@ fn put_outcome_line(text: &mut Vec<u8>, at: u64, outcome: &Outcome) -> Result<()
     text.extend_from_slice(row.as_slice())
 }
 
-/// Puts a node's id, a client, and the number of its command or its read, each with a space behind it, before the row.
+/// Puts a node's id, a client, and the number of its command or its read, each with a space behind it, before
+/// the row.
 fn put_asked(row: &mut Row, pid: Pid, client: u64, seq: u64)
     requires { length row.old + ASKED_BYTES ≤ ROW_BYTES }
     ensures put { row.new ≡ asked_text pid client seq ++ row.old }

@@ -9,7 +9,8 @@ use op_text::put_named;
 use op_types::NoMemory;
 use std::alloc::Global;
 
-/// The summary of a drill of so many events that a seed draws. `NoMemory` comes only where the allocator has none.
+/// The summary of a drill of so many events that a seed draws. `NoMemory` comes only where the allocator has
+/// none.
 pub fn summary_text(
     alloc: Global,
     seed: u64,

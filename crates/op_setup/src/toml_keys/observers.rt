@@ -15,8 +15,8 @@ use op_types::{NoMemory, Pid, Seq, is_among};
 use std::alloc::Global;
 use toml::{Table, Value};
 
-/// The nodes that never vote: there are none where the key is absent. None where what stands there are no ids of
-/// peers that are no members.
+/// The nodes that never vote: there are none where the key is absent. None where what stands there are no ids
+/// of peers that are no members.
 pub fn observers(
     alloc: Global,
     table: &Table,

@@ -34,8 +34,9 @@ fn first_world<A: Area>(alloc: Global) -> Result<World<A>, NoMemory>
 }
 
 impl<A: Area> World<A> {
-    /// Runs so many events at the drill's members and spares, from their start on, and reports what they leave. The seed
-    /// draws each where those before it are done, so that no list of them is kept. No event is refused. Its areas are not mirrored.
+    /// Runs so many events at the drill's members and spares, from their start on, and reports what they
+    /// leave. The seed draws each where those before it are done, so that no list of them is kept. No event
+    /// is refused. Its areas are not mirrored.
     pub(crate) fn drill_over(alloc: Global, seed: u64, count: u64) -> Result<Summary, RunFail>
         requires plain { A.IS_MIRRORED ≡ false }
         requires few { count ≤ greatest_number }

@@ -58,7 +58,8 @@ pub fn come<A: Area>(
     }
 }
 
-/// An event happens: where something is done at a node, that shows what it has stored then. Gives the node's place.
+/// An event happens: where something is done at a node, that shows what it has stored then. Gives the node's
+/// place.
 #[inline(always)]
 fn happen<A: Area>(
     world: &mut ServerWorld<WorldNode<A, A::Copies>>,

@@ -79,8 +79,9 @@ fn ballots(alloc: Global, members: &Members) -> Result<Events, NoMemory>
 }
 
 impl<A: Area> World<A> {
-    /// Runs a drill of links at these members, from their start on, and reports it: three lockstep rounds over all links, so
-    /// many over these, and a tick of each member, which then tells its ballots. No event of it is refused. Its areas are not mirrored.
+    /// Runs a drill of links at these members, from their start on, and reports it: three lockstep rounds
+    /// over all links, so many over these, and a tick of each member, which then tells its ballots. No event
+    /// of it is refused. Its areas are not mirrored.
     pub(crate) fn lockstep_over(
         alloc: Global,
         members: Members,

@@ -18,9 +18,9 @@ use op_types::Members;
 use std::alloc::Global;
 
 impl World<MemDisk> {
-    /// Runs events at these members, spares and observers, whose areas are mirrored or not, from their start on, and reports what
-    /// the run leaves. It is refused exactly where an event names a server that is none of these, in a stop-sign an observer, or a
-    /// message that wasn't sent: the first such event is told.
+    /// Runs events at these members, spares and observers, whose areas are mirrored or not, from their start
+    /// on, and reports what the run leaves. It is refused exactly where an event names a server that is none
+    /// of these, in a stop-sign an observer, or a message that wasn't sent: the first such event is told.
     pub fn run(
         alloc: Global,
         members: Members,
@@ -42,8 +42,9 @@ impl World<MemDisk> {
         World::<MemDisk>::run_over(alloc, members, spares, observers, events)
     }
 
-    /// Runs so many events at the drill's members and spares, from their start on, and reports what they leave. The seed
-    /// draws each where those before it are done, so that no list of them is kept. No event is refused.
+    /// Runs so many events at the drill's members and spares, from their start on, and reports what they
+    /// leave. The seed draws each where those before it are done, so that no list of them is kept. No event
+    /// is refused.
     pub fn drill(alloc: Global, seed: u64, count: u64) -> Result<Summary, RunFail>
         requires few { count ≤ greatest_number }
         ensures report { IfOk result (IsReportOfDrawn seed count) }
@@ -52,8 +53,9 @@ impl World<MemDisk> {
         World::<MemDisk>::drill_over(alloc, seed, count)
     }
 
-    /// Runs a drill of links at these members, from their start on, and reports it: three lockstep rounds over all links, so
-    /// many over these, and a tick of each member, which then tells its ballots. No event of it is refused.
+    /// Runs a drill of links at these members, from their start on, and reports it: three lockstep rounds
+    /// over all links, so many over these, and a tick of each member, which then tells its ballots. No event
+    /// of it is refused.
     pub fn lockstep(
         alloc: Global,
         members: Members,

@@ -2,7 +2,7 @@ use Rattle.std.proofs.Common.{◌≡◌, ℕ, List, false, true, ap, subst, ◌�
 use Rattle.std.proofs.lemmas.List.{nil_from_length}
 use Rattle.std.specs.Vec.Iter.{into_iter_items}
 use Rattle.op_runs.specs.Possible.{named_ids}
-use Rattle.op_runs.specs.Schedules.{begun, started_world}
+use Rattle.op_runs.specs.Schedules.{observers_begun, started_world}
 use Rattle.op_runs.specs.World as runs
 use Rattle.op_executions.proofs.Beginning.{begun_propose_none}
 use Rattle.op_executions.specs.Worlds.{Shows}
@@ -25,7 +25,7 @@ loop-happening-init c =
       continues_first a.members a.spares a.observers _ a.happenings w.proposed all c.requires.happenings (run.proposed ∙ begun_propose_none a.observers),
       run.ids ∙ ap (λ (ms : List ℕ). named_ids ms a.spares a.observers) c.in_ok-world.ensures.members,
       first_of (search rules, omega arith),
-      record { spares = a.spares; observers = a.observers; happenings = begun a.observers; run = run },
+      record { spares = a.spares; observers = a.observers; happenings = observers_begun a.observers; run = run },
     )
 
 pub event-requires-clause-run : goal.event-requires-clause-run

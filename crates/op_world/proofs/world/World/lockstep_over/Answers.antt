@@ -4,7 +4,7 @@ use Rattle.op_gen.specs.Links.{all_links}
 use Rattle.op_runs.specs.declared.summary.Summary.{Summary}
 use Rattle.op_executions.specs.Laws.{reached}
 use Rattle.op_runs.specs.Run.{Execution}
-use Rattle.op_runs.specs.Schedules.{begun}
+use Rattle.op_runs.specs.Schedules.{observers_begun}
 use Rattle.op_world.specs.Worlds.{Shows}
 use Rattle.op_world.proofs.Lockstep.{drill_report, passed_on}
 use Rattle.op_world.proofs.world.World.lockstep_over.Goals as goal
@@ -15,7 +15,7 @@ returns-clause-report g c =
     let M = medium g.A.Disk.state g.A.Area.holds g.A.Area.IS_MIRRORED in
     let all : c.deref.result.now ≡ all_links c.args.members = search rules in
     (drill_report M) c.args.members c.requires.members c.args.links.now.pairs.now c.deref.result.now c.args.rounds _ _ _ _ _
-    (subst (λ (none : List ℕ). Shows M c.in_ok-start.start (reached c.args.members none (begun none))) c.new-none.ensures c.in_ok-start.ensures.shows) c.in_ok-start.ensures.members all
+    (subst (λ (none : List ℕ). Shows M c.in_ok-start.start (reached c.args.members none (observers_begun none))) c.new-none.ensures c.in_ok-start.ensures.shows) c.in_ok-start.ensures.members all
     (λ t s. record { shows = c.in_ok-linked.ensures.after t s; range = c.in_ok-linked.ensures.range t s }) c.in_ok-linked.ensures.members
     (λ t s. record { shows = c.in_ok-drilled.ensures.after t s; range = c.in_ok-drilled.ensures.range t s }) c.in_ok-drilled.ensures.members
     c.in_ok-tell_ballots.ensures.after c.in_ok-tell_ballots.ensures.members

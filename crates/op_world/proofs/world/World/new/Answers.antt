@@ -1,6 +1,6 @@
 use Rattle.std.proofs.Common.{List, ℕ, ap, subst, ◌∙◌}
 use Rattle.op_runs.specs.Possible.{named_ids}
-use Rattle.op_runs.specs.Schedules.{begun}
+use Rattle.op_runs.specs.Schedules.{observers_begun}
 use Rattle.op_executions.specs.Laws.{reached}
 use Rattle.op_executions.proofs.Beginning.{begun_propose_none}
 use Rattle.op_world.specs.Events.{parts_of}
@@ -19,7 +19,7 @@ pub returns-clause-shows : goal.returns-clause-shows
 returns-clause-shows g c =
     let M = medium g.A.Disk.state g.A.Area.holds g.A.Area.IS_MIRRORED in
     let w = c.in_ok-world.world in
-    subst (λ (ms : List ℕ). Shows M (parts_of w c.new-2.result) (reached ms c.args.spares.now (begun c.args.observers.now))) c.in_ok-world.ensures.members
+    subst (λ (ms : List ℕ). Shows M (parts_of w c.new-2.result) (reached ms c.args.spares.now (observers_begun c.args.observers.now))) c.in_ok-world.ensures.members
     (first_shows M w c.new-2.result c.args.spares.now c.args.observers.now c.in_ok-world.ensures.run c.new-2.ensures)
 
 pub returns-clause-ids : goal.returns-clause-ids

@@ -2,7 +2,7 @@ use Rattle.std.proofs.Common.{◌≡◌, ◌<◌, ◌^◌, ℕ, List, length, fa
 use Rattle.op_areas.specs.Media.{medium}
 use Rattle.op_runs.specs.Possible.{named_ids}
 use Rattle.op_runs.specs.Run.{execution_of}
-use Rattle.op_runs.specs.Schedules.{begun, no_plans, plans_after}
+use Rattle.op_runs.specs.Schedules.{observers_begun, no_plans, plans_after}
 use Rattle.op_runs.specs.Summary.{summary_of}
 use Rattle.op_executions.specs.Laws.{reached}
 use Rattle.op_executions.specs.declared.world.ServerWorld.{ServerWorld}
@@ -66,8 +66,8 @@ events-init g c =
     let all : c.new-coming.result ≡ c.args.events = c.new-coming.ensures ∙ c.into_vec.ensures in
     let few : length c.args.events < 2 ^ 63 = first_of (search rules, omega arith) in
     let is : parts_of c.make_room.new.self c.world.inside.ledger ≡ c.in_ok-world.field-0 = ap (λ (w : ServerWorld _). parts_of w c.world.inside.ledger) c.make_room.ensures ∙ c.world.view_is in (
-      reached c.args.members c.args.spares (begun c.args.observers),
-      subst (λ (z : Parts _ _). Shows M z (reached c.args.members c.args.spares (begun c.args.observers))) (sym is) new.shows,
+      reached c.args.members c.args.spares (observers_begun c.args.observers),
+      subst (λ (z : Parts _ _). Shows M z (reached c.args.members c.args.spares (observers_begun c.args.observers))) (sym is) new.shows,
       (
         no_plans,
         subst (λ (z : Parts _ _). ArePlanned z.nodes no_plans) (sym is) new.planned,

@@ -3,7 +3,7 @@ use Rattle.op_types.specs.Ranges.{MembersInRange}
 use Rattle.op_areas.specs.Media.{medium}
 use Rattle.op_executions.specs.Laws.{reached}
 use Rattle.op_runs.specs.Possible.{ObserversInRange, SparesInRange}
-use Rattle.op_runs.specs.Schedules.{begun}
+use Rattle.op_runs.specs.Schedules.{observers_begun}
 use Rattle.op_gen.specs.Draws.{drill_members, drill_spares}
 use Rattle.op_world.proofs.Drawn.{drill_beside, drill_range}
 use Rattle.op_executions.proofs.Behind.{no_observers}
@@ -32,4 +32,4 @@ returns-clause-shows g c =
     let spares : c.in_ok-spares.spares ≡ drill_spares = search rules in
     subst (λ (ms : List ℕ). IfOk c.new.result (λ w. Shows M w (reached ms drill_spares []))) members
     (subst (λ (ss : List ℕ). IfOk c.new.result (λ w. Shows M w (reached c.in_ok-members.members ss []))) spares
-    (subst (λ (os : List ℕ). IfOk c.new.result (λ w. Shows M w (reached c.in_ok-members.members c.in_ok-spares.spares (begun os)))) c.new-none.ensures c.new.ensures.shows))
+    (subst (λ (os : List ℕ). IfOk c.new.result (λ w. Shows M w (reached c.in_ok-members.members c.in_ok-spares.spares (observers_begun os)))) c.new-none.ensures c.new.ensures.shows))
